@@ -145,7 +145,7 @@ module _ (apex : Name) (hash : Name → Option (List ℕ)) (rs : List Nsec3Recor
         opted_out_is true (list_any (λ r. covers apex hash r c && r.opt_out) rs) zone refl ∙ list_any-both_none (λ r. covers apex hash r c) (λ r. r.opt_out) rs (sym cover ∙ h)
 
   -- what is asked of the wildcard, where the proof stands
-  pub wildcard_rest : (wildcard_name : Name) → Some (base_name wildcard_name) ≡ proved_encloser apex hash rs x → wildcard_name ≡ wildcard_under (base_name wildcard_name) → (test : Name → Bool)
-      → encloser_and apex hash rs (λ r. true) x (λ e. test (wildcard_under e)) ≡ test wildcard_name
-  wildcard_rest wildcard_name proved is test =
+  pub wildcard_rest : (wildcard : Name) → Some (base_name wildcard) ≡ proved_encloser apex hash rs x → wildcard ≡ wildcard_under (base_name wildcard) → (test : Name → Bool)
+      → encloser_and apex hash rs (λ r. true) x (λ e. test (wildcard_under e)) ≡ test wildcard
+  wildcard_rest wildcard proved is test =
       with_rest (λ e. test (wildcard_under e)) ∙ ap (λ o. option_map_or (λ e. test (wildcard_under e)) o false) (sym proved) ∙ ap test (sym is)

@@ -163,8 +163,8 @@ fn wildcard_is_denied(
 {
     match nsec.shown_encloser(name) {
         Some(encloser) => {
-            let wildcard_name = AskedName::wildcard_under(encloser);
-            NsecRecords::among(records).any(|other| other.denies_name(apex, &wildcard_name))
+            let wildcard = AskedName::wildcard_under(encloser);
+            NsecRecords::among(records).any(|other| other.denies_name(apex, &wildcard))
         }
         None => false,
     }
@@ -198,10 +198,10 @@ fn wildcard_is_bare(
 {
     match nsec.shown_encloser(name) {
         Some(encloser) => {
-            let wildcard_name = AskedName::wildcard_under(encloser);
+            let wildcard = AskedName::wildcard_under(encloser);
             NsecRecords::among(records).any(|other| {
-                other.denies_type(apex, &wildcard_name, record_type)
-                    || other.shows_empty(apex, &wildcard_name)
+                other.denies_type(apex, &wildcard, record_type)
+                    || other.shows_empty(apex, &wildcard)
             })
         }
         None => false,

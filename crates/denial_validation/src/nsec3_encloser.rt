@@ -37,7 +37,7 @@ pub(crate) struct EncloserWalk<'q> {
 #[derive(Drop)]
 pub(crate) struct ProvedEncloser {
     /// The wildcard at it.
-    pub wildcard_name: LowerName,
+    pub wildcard: LowerName,
     /// Whether the next closer name is covered by a record with the flag Opt-Out.
     pub opted_out: bool,
 }
@@ -45,10 +45,10 @@ pub(crate) struct ProvedEncloser {
 impl<'q, 'r, H: Nsec3Hash> Nsec3Response<'q, 'r, H> {
     /// The closest encloser of the name that the records prove, if they do. Fails only for lack of memory.
     pub(crate) fn proved_encloser(&self) -> Result<Option<ProvedEncloser>, ProtoError>
-        ensures proved { IfOk result (λ proved. option_map (λ p. base_name p.wildcard_name) proved
+        ensures proved { IfOk result (λ proved. option_map (λ p. base_name p.wildcard) proved
             ≡ proved_here H.digest_of self.now) }
-        ensures wildcard_name { IfOk result
-            (λ proved. IfSome proved (λ p. p.wildcard_name ≡ wildcard_under (base_name p.wildcard_name))) }
+        ensures wildcard { IfOk result
+            (λ proved. IfSome proved (λ p. p.wildcard ≡ wildcard_under (base_name p.wildcard))) }
         ensures opted_out { IfOk result (λ proved. option_map_or (λ p. p.opted_out) proved false
             ≡ opted_out_here H.digest_of self.now) }
         ensures err { IsOkUnless result ProtoError.Memory }
@@ -74,10 +74,10 @@ impl<'q, 'r, H: Nsec3Hash> Nsec3Response<'q, 'r, H> {
             ≡ is_covered_in H.digest_of self.now encloser.next_closer }
         requires in_zone { encloser.in_zone
             ≡ is_encloser_in H.digest_of self.now (base_name encloser.next_closer) }
-        ensures proved { IfOk result (λ proved. option_map (λ p. base_name p.wildcard_name) proved
+        ensures proved { IfOk result (λ proved. option_map (λ p. base_name p.wildcard) proved
             ≡ proved_here H.digest_of self.now) }
-        ensures wildcard_name { IfOk result
-            (λ proved. IfSome proved (λ p. p.wildcard_name ≡ wildcard_under (base_name p.wildcard_name))) }
+        ensures wildcard { IfOk result
+            (λ proved. IfSome proved (λ p. p.wildcard ≡ wildcard_under (base_name p.wildcard))) }
         ensures opted_out { IfOk result (λ proved. option_map_or (λ p. p.opted_out) proved false
             ≡ opted_out_here H.digest_of self.now) }
         ensures err { IsOkUnless result ProtoError.Memory }
@@ -99,18 +99,18 @@ impl<'q, 'r, H: Nsec3Hash> Nsec3Response<'q, 'r, H> {
         requires covered { is_covered_in H.digest_of self.now encloser.next_closer ≡ true }
         requires in_zone { is_encloser_in H.digest_of self.now (base_name encloser.next_closer)
             ≡ true }
-        ensures proved { IfOk result (λ p. Some (base_name p.wildcard_name)
+        ensures proved { IfOk result (λ p. Some (base_name p.wildcard)
             ≡ proved_here H.digest_of self.now) }
         ensures encloser { IfOk result
-            (λ p. base_name p.wildcard_name ≡ base_name encloser.entry.next_closer) }
-        ensures wildcard_name { IfOk result (λ p. p.wildcard_name ≡ wildcard_under (base_name p.wildcard_name)) }
+            (λ p. base_name p.wildcard ≡ base_name encloser.entry.next_closer) }
+        ensures wildcard { IfOk result (λ p. p.wildcard ≡ wildcard_under (base_name p.wildcard)) }
         ensures opted_out { IfOk result (λ p. p.opted_out
             ≡ opted_out_here H.digest_of self.now) }
         ensures err { IsOkUnless result ProtoError.Memory }
     {
         let opted_out = self.is_opted_out(encloser.hashed.as_ref())?;
         Ok(ProvedEncloser {
-            wildcard_name: encloser.next_closer.into_wildcard(),
+            wildcard: encloser.next_closer.into_wildcard(),
             opted_out,
         })
     }

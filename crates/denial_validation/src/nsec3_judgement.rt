@@ -22,8 +22,8 @@ impl<'q, 'r, H: Nsec3Hash> Nsec3Response<'q, 'r, H> {
     {
         match self.proved_encloser()? {
             Some(encloser) => {
-                let wildcard_name = self.owner_of(&encloser.wildcard_name)?;
-                self.is_covered(wildcard_name.as_ref())
+                let wildcard = self.owner_of(&encloser.wildcard)?;
+                self.is_covered(wildcard.as_ref())
             }
             None => Ok(false),
         }
@@ -51,8 +51,8 @@ impl<'q, 'r, H: Nsec3Hash> Nsec3Response<'q, 'r, H> {
     {
         match self.proved_encloser()? {
             Some(encloser) => {
-                let wildcard_name = self.owner_of(&encloser.wildcard_name)?;
-                Ok(self.denies_type(&encloser.wildcard_name, wildcard_name.as_ref(), record_type))
+                let wildcard = self.owner_of(&encloser.wildcard)?;
+                Ok(self.denies_type(&encloser.wildcard, wildcard.as_ref(), record_type))
             }
             None => Ok(false),
         }
@@ -158,11 +158,11 @@ impl<'q, 'r, H: Nsec3Hash> Nsec3Response<'q, 'r, H> {
         record_type: RecordType,
     ) -> Result<Option<Proof>, ProtoError>
         requires here { is_handed_on_here H.digest_of self.now ≡ false }
-        requires proved { Some (base_name encloser.wildcard_name) ≡ proved_here H.digest_of self.now }
-        requires wildcard_name { encloser.wildcard_name ≡ wildcard_under (base_name encloser.wildcard_name) }
+        requires proved { Some (base_name encloser.wildcard) ≡ proved_here H.digest_of self.now }
+        requires wildcard { encloser.wildcard ≡ wildcard_under (base_name encloser.wildcard) }
         requires opted_out { encloser.opted_out ≡ opted_out_here H.digest_of self.now }
         requires answer { option_or
-            (answer_in H.digest_of self.now (base_name (base_name encloser.wildcard_name))) answer
+            (answer_in H.digest_of self.now (base_name (base_name encloser.wildcard))) answer
             ≡ answer_in H.digest_of self.now self.now.name }
         ensures ok { IfOk result (λ proof. proof ≡ proof_here H.digest_of self.now record_type.0) }
         ensures err { IsOkUnless result ProtoError.Memory }
@@ -170,13 +170,13 @@ impl<'q, 'r, H: Nsec3Hash> Nsec3Response<'q, 'r, H> {
         if is_left_out(record_type, encloser.opted_out) {
             return Ok(Some(Proof::UnsignedDelegation));
         }
-        let wildcard_name = self.owner_of(&encloser.wildcard_name)?;
-        if self.is_covered(wildcard_name.as_ref())? {
+        let wildcard = self.owner_of(&encloser.wildcard)?;
+        if self.is_covered(wildcard.as_ref())? {
             return Ok(Some(Proof::NameError {
                 opted_out: encloser.opted_out,
             }));
         }
-        if self.denies_type(&encloser.wildcard_name, wildcard_name.as_ref(), record_type) {
+        if self.denies_type(&encloser.wildcard, wildcard.as_ref(), record_type) {
             return Ok(Some(Proof::WildcardNoData {
                 opted_out: encloser.opted_out,
             }));
@@ -184,7 +184,7 @@ impl<'q, 'r, H: Nsec3Hash> Nsec3Response<'q, 'r, H> {
         if encloser.opted_out {
             return Ok(Some(Proof::UnsignedDelegation));
         }
-        let mut above = encloser.wildcard_name;
+        let mut above = encloser.wildcard;
         above.shorten();
         above.shorten();
         self.wildcard_answer_above(above, answer)

@@ -25,8 +25,8 @@ names: describe: NAME
 names: lower describe: NAME
 names: base: NAME
 names: lower base: NAME
-names: wildcard: NAME
-names: lower wildcard: NAME
+names: into_wildcard: NAME
+names: lower into_wildcard: NAME
 names: prepend: OCTETS NAME
 names: lower prepend: OCTETS NAME
 names: wire: NAME

@@ -75,7 +75,7 @@ pub fn write_sameness(out: &mut Answer, are_same: bool, order: Option<Ordering>)
 
 fn make_on_name(out: &mut Answer, verb: &str, name: Name, arguments: &mut Arguments<'_>) {
     match verb {
-        "wildcard" => out.value(name.into_wildcard()),
+        "into_wildcard" => out.value(name.into_wildcard()),
         "converted" => out.value(Name::from(LowerName::from(name))),
         "shorten" => shorten(out, LowerName::from(name)),
         verb => look_at(out, verb, &name, arguments),
@@ -109,7 +109,7 @@ fn make_lower_call(out: &mut Answer, verb: &str, arguments: &mut Arguments<'_>) 
     match verb {
         "parse" => out.give(LowerName::parse(arguments.alloc, arguments.text)),
         "labels" => out.give(LowerName::from_labels(arguments.take_labels())),
-        "wildcard" => out.value(arguments.take_lower().into_wildcard()),
+        "into_wildcard" => out.value(arguments.take_lower().into_wildcard()),
         "holds" | "order" | "same" | "shared" => {
             let second = arguments.take_lower();
             compare_lower(out, verb, &arguments.take_lower(), &second);

@@ -75,7 +75,8 @@ fn renamed_signature(
     wildcard_name: &Name,
     name: &LowerName,
 ) -> Result<Record, ProtoError>
-    ensures made { IfOk result (λ made. made ≡ renamed_signature wildcard_name.now name.now rrsig.now) }
+    ensures made { IfOk result
+        (λ made. made ≡ renamed_signature wildcard_name.now name.now rrsig.now) }
     ensures err { IsOkUnless result ProtoError.Memory }
 {
     let owner = if rrsig.name == *wildcard_name {

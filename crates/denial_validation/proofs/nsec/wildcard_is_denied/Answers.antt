@@ -9,7 +9,7 @@ use Rattle.denial_validation.proofs.nsec.wildcard_is_denied.Goals as goal
 
 pub returns-in-Some : goal.returns-in-Some
 returns-in-Some c =
-    any_from_yields_List (λ r. denies_name c.args.apex.now r c.wildcard_under-wildcard_name.result) _ _ _ c.any.ensures.ran
+    any_from_yields_List (λ r. denies_name c.args.apex.now r c.wildcard_under-wildcard.result) _ _ _ c.any.ensures.ran
     (YieldsList-from_first (λ x. x) (λ s. s) _ c.among.ensures) (λ x b q k. search (rules, tests))
-    ∙ ap (is_denied c.args.apex.now (lent_nsec c.args.records.now)) c.wildcard_under-wildcard_name.ensures
+    ∙ ap (is_denied c.args.apex.now (lent_nsec c.args.records.now)) c.wildcard_under-wildcard.ensures
     ∙ ap (λ encloser. option_map_or (λ (e : Name). is_denied c.args.apex.now (lent_nsec c.args.records.now) (wildcard_under e)) encloser false) c.in-Some.ensures

@@ -16,13 +16,13 @@ returns-then-is_left_out-clause-ok g c =
     let hash = hash_of g.H.Nsec3Hash.digest_of c.args.self.now in
     let rs = c.args.self.now.records in
     let x = c.args.self.now.name in
-    let wildcard_name = c.args.encloser.wildcard_name in
+    let wildcard = c.args.encloser.wildcard in
     let t = c.args.record_type.0 in
     sym
-    (with_wildcard apex hash rs x t c.requires.here wildcard_name c.requires.proved c.requires.wildcard_name (is_covered apex hash rs wildcard_name) (is_denied apex hash rs wildcard_name t) c.args.encloser.opted_out refl refl c.requires.opted_out
+    (with_wildcard apex hash rs x t c.requires.here wildcard c.requires.proved c.requires.wildcard (is_covered apex hash rs wildcard) (is_denied apex hash rs wildcard t) c.args.encloser.opted_out refl refl c.requires.opted_out
     ∙ (λ i. if (sym c.is_left_out.ensures ∙ c.if-is_left_out.true) i then Some UnsignedDelegation
-    else (if is_covered apex hash rs wildcard_name then Some (NameError c.args.encloser.opted_out)
-    else (if is_denied apex hash rs wildcard_name t then Some (WildcardNoData c.args.encloser.opted_out)
+    else (if is_covered apex hash rs wildcard then Some (NameError c.args.encloser.opted_out)
+    else (if is_denied apex hash rs wildcard t then Some (WildcardNoData c.args.encloser.opted_out)
     else (if c.args.encloser.opted_out then Some UnsignedDelegation
     else wildcard_answer apex hash rs x)))))
 
@@ -32,13 +32,13 @@ returns-then-branch-clause-ok g c =
     let hash = hash_of g.H.Nsec3Hash.digest_of c.args.self.now in
     let rs = c.args.self.now.records in
     let x = c.args.self.now.name in
-    let wildcard_name = c.args.encloser.wildcard_name in
+    let wildcard = c.args.encloser.wildcard in
     let t = c.args.record_type.0 in
     sym
-    (with_wildcard apex hash rs x t c.requires.here wildcard_name c.requires.proved c.requires.wildcard_name c.in_ok-is_covered.field-0 (is_denied apex hash rs wildcard_name t) c.args.encloser.opted_out (c.in_ok-is_covered.ensures.ok ∙ covered_by apex hash rs wildcard_name _ (c.as_ref.ensures.value ∙ c.in_ok-wildcard_name.ensures.ok)) refl c.requires.opted_out
+    (with_wildcard apex hash rs x t c.requires.here wildcard c.requires.proved c.requires.wildcard c.in_ok-is_covered.field-0 (is_denied apex hash rs wildcard t) c.args.encloser.opted_out (c.in_ok-is_covered.ensures.ok ∙ covered_by apex hash rs wildcard _ (c.as_ref.ensures.value ∙ c.in_ok-wildcard.ensures.ok)) refl c.requires.opted_out
     ∙ (λ i. if (sym c.is_left_out.ensures ∙ c.if-is_left_out.false) i then Some UnsignedDelegation
     else (if c.if-branch.true i then Some (NameError c.args.encloser.opted_out)
-    else (if is_denied apex hash rs wildcard_name t then Some (WildcardNoData c.args.encloser.opted_out)
+    else (if is_denied apex hash rs wildcard t then Some (WildcardNoData c.args.encloser.opted_out)
     else (if c.args.encloser.opted_out then Some UnsignedDelegation
     else wildcard_answer apex hash rs x)))))
 
@@ -48,10 +48,10 @@ returns-then-denies_type-clause-ok g c =
     let hash = hash_of g.H.Nsec3Hash.digest_of c.args.self.now in
     let rs = c.args.self.now.records in
     let x = c.args.self.now.name in
-    let wildcard_name = c.args.encloser.wildcard_name in
+    let wildcard = c.args.encloser.wildcard in
     let t = c.args.record_type.0 in
     sym
-    (with_wildcard apex hash rs x t c.requires.here wildcard_name c.requires.proved c.requires.wildcard_name c.in_ok-is_covered.field-0 c.denies_type.result c.args.encloser.opted_out (c.in_ok-is_covered.ensures.ok ∙ covered_by apex hash rs wildcard_name _ (c.as_ref.ensures.value ∙ c.in_ok-wildcard_name.ensures.ok)) (c.denies_type.ensures ∙ denied_by apex hash rs wildcard_name _ (c.as_ref-2.ensures.value ∙ c.in_ok-wildcard_name.ensures.ok) t) c.requires.opted_out
+    (with_wildcard apex hash rs x t c.requires.here wildcard c.requires.proved c.requires.wildcard c.in_ok-is_covered.field-0 c.denies_type.result c.args.encloser.opted_out (c.in_ok-is_covered.ensures.ok ∙ covered_by apex hash rs wildcard _ (c.as_ref.ensures.value ∙ c.in_ok-wildcard.ensures.ok)) (c.denies_type.ensures ∙ denied_by apex hash rs wildcard _ (c.as_ref-2.ensures.value ∙ c.in_ok-wildcard.ensures.ok) t) c.requires.opted_out
     ∙ (λ i. if (sym c.is_left_out.ensures ∙ c.if-is_left_out.false) i then Some UnsignedDelegation
     else (if c.if-branch.false i then Some (NameError c.args.encloser.opted_out)
     else (if c.if-denies_type.true i then Some (WildcardNoData c.args.encloser.opted_out)
@@ -64,10 +64,10 @@ returns-then-encloser-clause-ok g c =
     let hash = hash_of g.H.Nsec3Hash.digest_of c.args.self.now in
     let rs = c.args.self.now.records in
     let x = c.args.self.now.name in
-    let wildcard_name = c.args.encloser.wildcard_name in
+    let wildcard = c.args.encloser.wildcard in
     let t = c.args.record_type.0 in
     sym
-    (with_wildcard apex hash rs x t c.requires.here wildcard_name c.requires.proved c.requires.wildcard_name c.in_ok-is_covered.field-0 c.denies_type.result c.args.encloser.opted_out (c.in_ok-is_covered.ensures.ok ∙ covered_by apex hash rs wildcard_name _ (c.as_ref.ensures.value ∙ c.in_ok-wildcard_name.ensures.ok)) (c.denies_type.ensures ∙ denied_by apex hash rs wildcard_name _ (c.as_ref-2.ensures.value ∙ c.in_ok-wildcard_name.ensures.ok) t) c.requires.opted_out
+    (with_wildcard apex hash rs x t c.requires.here wildcard c.requires.proved c.requires.wildcard c.in_ok-is_covered.field-0 c.denies_type.result c.args.encloser.opted_out (c.in_ok-is_covered.ensures.ok ∙ covered_by apex hash rs wildcard _ (c.as_ref.ensures.value ∙ c.in_ok-wildcard.ensures.ok)) (c.denies_type.ensures ∙ denied_by apex hash rs wildcard _ (c.as_ref-2.ensures.value ∙ c.in_ok-wildcard.ensures.ok) t) c.requires.opted_out
     ∙ (λ i. if (sym c.is_left_out.ensures ∙ c.if-is_left_out.false) i then Some UnsignedDelegation
     else (if c.if-branch.false i then Some (NameError c.args.encloser.opted_out)
     else (if c.if-denies_type.false i then Some (WildcardNoData c.args.encloser.opted_out)
@@ -80,14 +80,14 @@ returns-clause-ok g c =
     let hash = hash_of g.H.Nsec3Hash.digest_of c.args.self.now in
     let rs = c.args.self.now.records in
     let x = c.args.self.now.name in
-    let wildcard_name = c.args.encloser.wildcard_name in
+    let wildcard = c.args.encloser.wildcard in
     let t = c.args.record_type.0 in
     let sum =
-    with_wildcard apex hash rs x t c.requires.here wildcard_name c.requires.proved c.requires.wildcard_name c.in_ok-is_covered.field-0 c.denies_type.result c.args.encloser.opted_out (c.in_ok-is_covered.ensures.ok ∙ covered_by apex hash rs wildcard_name _ (c.as_ref.ensures.value ∙ c.in_ok-wildcard_name.ensures.ok)) (c.denies_type.ensures ∙ denied_by apex hash rs wildcard_name _ (c.as_ref-2.ensures.value ∙ c.in_ok-wildcard_name.ensures.ok) t) c.requires.opted_out
+    with_wildcard apex hash rs x t c.requires.here wildcard c.requires.proved c.requires.wildcard c.in_ok-is_covered.field-0 c.denies_type.result c.args.encloser.opted_out (c.in_ok-is_covered.ensures.ok ∙ covered_by apex hash rs wildcard _ (c.as_ref.ensures.value ∙ c.in_ok-wildcard.ensures.ok)) (c.denies_type.ensures ∙ denied_by apex hash rs wildcard _ (c.as_ref-2.ensures.value ∙ c.in_ok-wildcard.ensures.ok) t) c.requires.opted_out
     ∙ (λ i. if (sym c.is_left_out.ensures ∙ c.if-is_left_out.false) i then Some UnsignedDelegation
     else (if c.if-branch.false i then Some (NameError c.args.encloser.opted_out)
     else (if c.if-denies_type.false i then Some (WildcardNoData c.args.encloser.opted_out)
     else (if c.if-encloser.false i then Some UnsignedDelegation
     else wildcard_answer apex hash rs x)))) in
-    let answer = ap (λ n. option_or (wildcard_answer apex hash rs n) c.args.answer) (c.shorten-2.ensures ∙ ap (drop 1) c.shorten.ensures ∙ base_of_base wildcard_name) ∙ c.requires.answer in
+    let answer = ap (λ n. option_or (wildcard_answer apex hash rs n) c.args.answer) (c.shorten-2.ensures ∙ ap (drop 1) c.shorten.ensures ∙ base_of_base wildcard) ∙ c.requires.answer in
     IfOk-weaker c.wildcard_answer_above.result _ _ (λ p is. is ∙ answer ∙ sym sum) c.wildcard_answer_above.ensures.ok

@@ -13,8 +13,8 @@ returns-clause-proved g c =
     ap (λ s. Some (base_name s)) c.into_wildcard.ensures ∙ ap Some (base_of_wildcard n)
     ∙ sym (proved_is apex hash rs c.args.self.now.name (base_name n) n c.requires.unmatched c.requires.shown c.requires.closer true true (sym c.requires.in_zone) (sym c.requires.covered))
 
-pub returns-clause-wildcard_name : goal.returns-clause-wildcard_name
-returns-clause-wildcard_name g c =
+pub returns-clause-wildcard : goal.returns-clause-wildcard
+returns-clause-wildcard g c =
     let n = c.args.encloser.next_closer in
     c.into_wildcard.ensures ∙ wildcard_of_closer c.args.self.now.name (base_name n) n c.requires.closer ∙ ap (λ s. wildcard_under (base_name s)) (sym c.into_wildcard.ensures)
 
