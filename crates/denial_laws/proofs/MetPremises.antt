@@ -6,7 +6,7 @@ use Rattle.zone_proto.specs.declared.record.Record.{Record}
 use Rattle.zone_proto.specs.Keys.{key, key_eq}
 use Rattle.zone_proto.specs.Names.{Name, name_eq, is_at_or_above}
 use Rattle.zone_proto.specs.Sets.{RRset}
-use Rattle.zone_proto.specs.Types.{NS, SOA, NSEC, NSEC3, DNSKEY}
+use Rattle.zone_proto.specs.Types.{NS, SOA, NSEC, NSEC3, DNSKEY, DNAME}
 use Rattle.zone_proto.proofs.Ordering.KeyOrder.{key_same, key_itself}
 use Rattle.zone_proto.proofs.Names.NameTree.{name_eq-Decides}
 use Rattle.zone_proto.proofs.SetLaws.{IsSet-alone}
@@ -20,7 +20,6 @@ use Rattle.zone_denial.proofs.Examples.NsecExamples.{origin, start, public_key, 
 use Rattle.zone_denial.proofs.Chain.NsecSecured.{secured_is_circle}
 use Rattle.denial_laws.specs.Scope.{IsInScope}
 use Rattle.zone_denial.proofs.Examples.Nsec3Examples.{b}
-use Rattle.denial_validation.specs.NsecProofs.{DNAME}
 
 soa_stored : IsStoredAt origin SOA start.1
 soa_stored = record { named = name_by_tests origin refl refl; owner = refl; record_type = refl; filled = λ e. cc; set = IsSet-alone origin SOA _ refl refl }

@@ -8,7 +8,7 @@ use Rattle.zone_proto.specs.Keys.{key, key_eq}
 use Rattle.zone_proto.specs.Names.{Name, base_name, name_eq, IsAtOrAbove, wildcard_under}
 use Rattle.zone_proto.specs.Ranges.{IsOctet}
 use Rattle.zone_proto.specs.Sets.{RRset}
-use Rattle.zone_proto.specs.Types.{NS, SOA, DNSKEY, RRSIG, NSEC, NSEC3, NSEC3PARAM}
+use Rattle.zone_proto.specs.Types.{NS, SOA, DNSKEY, RRSIG, NSEC, NSEC3, NSEC3PARAM, DNAME}
 use Rattle.zone_proto.proofs.Ordering.KeyOrder.{key_same}
 use Rattle.zone_proto.proofs.Members.{In, Contains-In}
 use Rattle.zone_proto.proofs.Names.NameTree.{name_eq-Decides}
@@ -23,7 +23,6 @@ use Rattle.zone_denial.proofs.Examples.NsecExamples.{origin, start, public_key, 
 use Rattle.denial_laws.proofs.MetPremises.{type_apart, bare_zone}
 use Rattle.zone_denial.proofs.Hashed.Nsec3Secured.{secured_is_nsec3_circle}
 use Rattle.zone_denial.proofs.Examples.Nsec3Examples.{parameters, b, digest_in, says, announcing, announced, linked}
-use Rattle.denial_validation.specs.NsecProofs.{DNAME}
 use Rattle.denial_laws.specs.Nsec3Scope.{IsInNsec3Scope}
 
 abbrev table : List (Name × List ℕ)

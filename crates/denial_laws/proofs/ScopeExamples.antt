@@ -5,7 +5,7 @@ use Rattle.zone_proto.specs.declared.rr_key.RrKey.{RrKey}
 use Rattle.zone_proto.specs.declared.rdata.RData.TheVariants as V
 use Rattle.zone_proto.specs.Names.{Name, wildcard_under}
 use Rattle.zone_proto.specs.Sets.{RRset}
-use Rattle.zone_proto.specs.Types.{A, NS, SOA, TXT, DS, RRSIG, NSEC3, ANY, ANAME}
+use Rattle.zone_proto.specs.Types.{A, NS, SOA, TXT, DS, RRSIG, NSEC3, ANY, ANAME, DNAME}
 use Rattle.zone_map.specs.AnyTypes.{searched_type}
 use Rattle.zone_map.specs.Wildcards.{found, asked_wildcard}
 use Rattle.zone_map.specs.Zones.{Sets, put}
@@ -13,7 +13,7 @@ use Rattle.zone_denial.specs.Nsec3Circle.{nsec3_data}
 use Rattle.zone_denial.proofs.Examples.NsecExamples.{origin, at_origin, entry, address, start, linked}
 use Rattle.zone_denial.proofs.Examples.Nsec3Examples.{parameters, b}
 use Rattle.zone_lookup.specs.Replies.{name_exists, nx_domain, negative_answer}
-use Rattle.denial_validation.specs.NsecProofs.{DNAME, proves_name_error, proves_no_data, proves_empty_answer, proves_wildcard_answer}
+use Rattle.denial_validation.specs.NsecProofs.{proves_name_error, proves_no_data, proves_empty_answer, proves_wildcard_answer}
 use Rattle.denial_laws.specs.Scope.{denial_records}
 
 abbrev below_b : Name

@@ -1,10 +1,10 @@
 -- What a validator makes of the denials of a zone whose NSEC sets are a chain, as `Acceptance` and `Soundness` say it of a circle
 use Rattle.std.specs.Prelude.{◌≡◌, List, IsTrue, IsFalse}
 use Rattle.zone_proto.specs.Names.{Name, is_at_or_above, IsAbove, wildcard_under}
-use Rattle.zone_proto.specs.Types.{NSEC, NSEC3}
+use Rattle.zone_proto.specs.Types.{NSEC, NSEC3, DNAME}
 use Rattle.zone_map.specs.Zones.{Sets, owns, owns_at_or_below}
 use Rattle.zone_denial.specs.Authority.{is_below_cut}
-use Rattle.zone_denial.specs.Chains.{DNAME, is_below_dname, IsNsecChain}
+use Rattle.zone_denial.specs.Chains.{is_below_dname, IsNsecChain}
 use Rattle.zone_denial.specs.NsecDenial.{nsec_encloser}
 use Rattle.zone_denial.specs.WildcardLaws.{OwnsNone}
 use Rattle.zone_lookup.specs.Replies.{nx_domain, negative_answer}

@@ -5,10 +5,10 @@ use Rattle.zone_proto.specs.declared.rdata.denial.NSEC3PARAM.{NSEC3PARAM as Nsec
 use Rattle.zone_proto.specs.declared.record.Record.{Record}
 use Rattle.zone_proto.specs.Names.{Name, is_at_or_above, IsAtOrAbove, IsAbove, wildcard_under}
 use Rattle.zone_proto.specs.Sets.{RRset}
-use Rattle.zone_proto.specs.Types.{NSEC, NSEC3}
+use Rattle.zone_proto.specs.Types.{NSEC, NSEC3, DNAME}
 use Rattle.zone_map.specs.Zones.{Sets, owns, owns_at_or_below}
 use Rattle.zone_denial.specs.Authority.{is_below_cut}
-use Rattle.zone_denial.specs.Chains.{DNAME, may_be_left_out, IsNsec3Chain}
+use Rattle.zone_denial.specs.Chains.{may_be_left_out, IsNsec3Chain}
 use Rattle.zone_denial.specs.Nsec3Denial.{encloser_on}
 use Rattle.zone_denial.specs.Nsec3Laws.{CoversCloser, Denies}
 use Rattle.zone_denial.specs.Nsec3Zones.{IsHashedOn, HasDistinctDigests, hash_with}

@@ -4,14 +4,13 @@ use Rattle.std.specs.List.{Contains}
 use Rattle.zone_proto.specs.declared.rdata.denial.NSEC3PARAM.{NSEC3PARAM as Nsec3Parameters}
 use Rattle.zone_proto.specs.Names.{Name, is_at_or_above, IsAbove, wildcard_under}
 use Rattle.zone_proto.specs.Sets.{RRset}
-use Rattle.zone_proto.specs.Types.{DS, RRSIG, NSEC, NSEC3, ANY}
+use Rattle.zone_proto.specs.Types.{DS, RRSIG, NSEC, NSEC3, ANY, DNAME}
 use Rattle.zone_map.specs.Zones.{Sets, set_at, owns}
 use Rattle.zone_denial.specs.Authority.{is_below_cut}
 use Rattle.zone_denial.specs.Nsec3Denial.{encloser_on}
 use Rattle.zone_denial.specs.Nsec3Names.{nsec3_names}
 use Rattle.zone_denial.specs.Nsec3Zones.{IsNsec3Zone, IsHashed, HasDistinctDigests}
 use Rattle.zone_denial.specs.WildcardLaws.{OwnsNone}
-use Rattle.denial_validation.specs.NsecProofs.{DNAME}
 use Rattle.denial_validation.specs.Nsec3Records.{Nsec3Record, nsec3_records}
 use Rattle.denial_laws.specs.Scope.{Unreferred, is_parents_ds}
 

@@ -3,13 +3,12 @@ use Rattle.std.specs.Prelude.{◌≡◌, ◌≢◌, ℕ, Bool, ◌&&◌, ◌||�
 use Rattle.std.specs.List.{Contains}
 use Rattle.zone_proto.specs.Names.{Name, name_eq, is_root, is_at_or_above, IsAtOrAbove, IsAbove, wildcard_under}
 use Rattle.zone_proto.specs.Sets.{RRset}
-use Rattle.zone_proto.specs.Types.{NS, SOA, DS, RRSIG, NSEC, NSEC3, ANY}
+use Rattle.zone_proto.specs.Types.{NS, SOA, DS, RRSIG, NSEC, NSEC3, ANY, DNAME}
 use Rattle.zone_map.specs.Zones.{Sets, set_at, owns}
 use Rattle.zone_denial.specs.Authority.{is_below_cut}
 use Rattle.zone_denial.specs.NsecDenial.{nsec_encloser, nsec_denial}
 use Rattle.zone_denial.specs.NsecLaws.{IsNsecZone}
 use Rattle.zone_denial.specs.WildcardLaws.{OwnsNone}
-use Rattle.denial_validation.specs.NsecProofs.{DNAME}
 use Rattle.denial_validation.specs.NsecRecords.{NsecRecord, nsec_records}
 
 -- ---- the records

@@ -6,8 +6,7 @@ use Rattle.zone_proto.specs.declared.rdata.RData.TheVariants as V
 use Rattle.zone_proto.specs.declared.record.Record.{Record}
 use Rattle.zone_proto.specs.Base32.{base32_text}
 use Rattle.zone_proto.specs.Names.{Label, Name, name_eq, wildcard_under}
-use Rattle.zone_proto.specs.Types.{A, NS, CNAME, SOA, MX, AAAA, DS, RRSIG, DNSKEY, NSEC3PARAM, ANY, IN}
-use Rattle.denial_validation.specs.NsecProofs.{DNAME}
+use Rattle.zone_proto.specs.Types.{A, NS, CNAME, SOA, MX, AAAA, DS, RRSIG, DNSKEY, NSEC3PARAM, ANY, IN, DNAME}
 use Rattle.denial_validation.specs.Nsec3Proofs.{is_covered, proves_name_error, proves_no_data, proves_wildcard_no_data, proves_empty_answer, proves_wildcard_answer, proves_unsigned_delegation}
 use Rattle.denial_validation.specs.Nsec3Records.{Nsec3Record, nsec3_records}
 

@@ -4,11 +4,10 @@ use Rattle.std.specs.Prelude.{Some, None}
 use Rattle.zone_proto.specs.declared.rdata.denial.NSEC3.{NSEC3 as Nsec3Data}
 use Rattle.zone_proto.specs.declared.record.Record.{Record}
 use Rattle.zone_proto.specs.Names.{Name}
-use Rattle.zone_proto.specs.Types.{A, NS, SOA, MX, DS}
+use Rattle.zone_proto.specs.Types.{A, NS, SOA, MX, DS, DNAME}
 use Rattle.denial_validation.specs.declared.proof.Proof.TheVariants.{NameError, UnsignedDelegation, NoData, WildcardAnswer}
 use Rattle.denial_validation.specs.Nsec3Parameters.{concluded}
 use Rattle.denial_validation.specs.Nsec3Proofs.{proves_wildcard_answer}
-use Rattle.denial_validation.specs.NsecProofs.{DNAME}
 use Rattle.denial_validation.proofs.Nsec3SumExamples.{apex, under, host, cut, absent, foreign, below_cut, digest_of, data_of, answer, answer_of, says, circle, proof}
 
 -- ---- records of other zones

@@ -2,10 +2,10 @@
 use Rattle.std.proofs.Common.{◌≡◌, true, false, [], ◌∷◌, refl}
 use Rattle.std.specs.Prelude.{codes, Some, None}
 use Rattle.zone_proto.specs.Names.{Name, wildcard_under}
-use Rattle.zone_proto.specs.Types.{A, NS, CNAME, SOA, MX, AAAA, DS, RRSIG, NSEC, ANY}
+use Rattle.zone_proto.specs.Types.{A, NS, CNAME, SOA, MX, AAAA, DS, RRSIG, NSEC, ANY, DNAME}
 use Rattle.denial_validation.specs.declared.proof.Proof.TheVariants.{NameError, EmptyNonTerminal, WildcardAnswer}
 use Rattle.denial_validation.specs.Judgement.{nsec_proof}
-use Rattle.denial_validation.specs.NsecProofs.{DNAME, denies_name, proves_name_error, proves_no_data, proves_wildcard_no_data, proves_wildcard_answer, proves_unsigned_delegation}
+use Rattle.denial_validation.specs.NsecProofs.{denies_name, proves_name_error, proves_no_data, proves_wildcard_no_data, proves_wildcard_answer, proves_unsigned_delegation}
 use Rattle.denial_validation.specs.NsecRecords.{NsecRecord}
 use Rattle.denial_validation.proofs.NsecExamples.{apex, under, b, ml, ns1, w, azw, says, at_apex, at_a, at_b, at_ns1, at_ns2, at_wildcard, at_xyw, at_xx}
 

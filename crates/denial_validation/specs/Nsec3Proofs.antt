@@ -7,11 +7,10 @@ use Rattle.std.specs.Option.{option_map_or}
 use Rattle.zone_proto.specs.HashedOwners.{hashed_owner}
 use Rattle.zone_proto.specs.Names.{Name, base_name, name_cmp, name_eq, is_above, is_at_or_above, is_root, proper_ancestors, wildcard_under, suffixes}
 use Rattle.zone_proto.specs.Order.{is_before, is_upto}
-use Rattle.zone_proto.specs.Types.{NS, CNAME, SOA, DS, ANY}
+use Rattle.zone_proto.specs.Types.{NS, CNAME, SOA, DS, ANY, DNAME}
 use Rattle.denial_validation.specs.declared.proof.Proof.{Proof}
 use Rattle.denial_validation.specs.declared.proof.Proof.TheVariants.{WildcardAnswer}
 use Rattle.denial_validation.specs.Encloser.{next_closer}
-use Rattle.denial_validation.specs.NsecProofs.{DNAME}
 use Rattle.denial_validation.specs.Nsec3Records.{Nsec3Record}
 
 -- ---- one record

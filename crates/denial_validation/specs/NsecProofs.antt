@@ -5,12 +5,8 @@ use Rattle.std.specs.List.{list_any}
 use Rattle.std.specs.Option.{option_map_or}
 use Rattle.zone_proto.specs.Names.{Name, name_cmp, name_eq, is_above, is_at_or_above, is_root, proper_ancestors, wildcard_under}
 use Rattle.zone_proto.specs.Order.{is_before}
-use Rattle.zone_proto.specs.Types.{NS, CNAME, SOA, DS, RRSIG, NSEC, ANY}
+use Rattle.zone_proto.specs.Types.{NS, CNAME, SOA, DS, RRSIG, NSEC, ANY, DNAME}
 use Rattle.denial_validation.specs.NsecRecords.{NsecRecord}
-
--- another name for all names below the owner (RFC 6672 section 2.1)
-abbrev pub DNAME : ℕ
-DNAME = 39
 
 -- ---- one record
 

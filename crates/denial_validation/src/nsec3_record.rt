@@ -5,7 +5,7 @@ ghost use Rattle.denial_validation.specs.Nsec3Records.{nsec3_data, read_nsec3};
 
 use crate::asked_name::AskedName;
 use crate::hashed_owner::HashedOwner;
-use crate::nsec_record::{DNAME, has_type};
+use crate::nsec_record::has_type;
 use std::marker::Model;
 use zone_proto::{NSEC3, RData, Record, RecordType};
 
@@ -67,7 +67,8 @@ impl<'r> LentNsec3<'r> {
     pub(crate) fn is_of_encloser(&self) -> bool
         ensures { result ≡ is_of_encloser self.now }
     {
-        !self.lists(DNAME) && (!self.lists(RecordType::NS) || self.lists(RecordType::SOA))
+        !self.lists(RecordType::DNAME)
+            && (!self.lists(RecordType::NS) || self.lists(RecordType::SOA))
     }
 
     /// Whether it is of the side of a zone cut, the name, that has no say on the type (RFC 4035 section 5.2, RFC 6840 section

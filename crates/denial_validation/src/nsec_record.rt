@@ -10,9 +10,6 @@ use crate::asked_name::AskedName;
 use std::marker::Model;
 use zone_proto::{Labels, LowerName, RData, Record, RecordType};
 
-/// Another name for all names below the owner (RFC 6672 section 2.1).
-pub(crate) const DNAME: RecordType = RecordType(39);
-
 /// An NSEC record, lent.
 #[derive(Drop)]
 pub(crate) struct LentNsec<'r> {
@@ -78,7 +75,8 @@ impl<'r> LentNsec<'r> {
     fn may_apply_to(&self, name: &AskedName<'_>) -> bool
         ensures { result ≡ may_apply_to self.now name.now }
     {
-        !(self.owner.is_above(name) && (self.is_ancestor_delegation() || self.lists(DNAME)))
+        !(self.owner.is_above(name)
+            && (self.is_ancestor_delegation() || self.lists(RecordType::DNAME)))
     }
 
     /// Whether its owner is a name of the zone.

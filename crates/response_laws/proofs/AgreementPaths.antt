@@ -7,7 +7,7 @@ use Rattle.std.proofs.lemmas.Bool.Decides.{leb_tells}
 use Rattle.zone_proto.specs.declared.response_code.ResponseCode.TheVariants as code
 use Rattle.zone_proto.specs.Names.{Name, lower, name_eq, is_at_or_above}
 use Rattle.zone_proto.specs.Sets.{RRset}
-use Rattle.zone_proto.specs.Types.{CNAME, RRSIG, ANAME}
+use Rattle.zone_proto.specs.Types.{CNAME, RRSIG, ANAME, DNAME}
 use Rattle.zone_proto.proofs.Members.{In, and_left, In-from_append, In-append_left, In-append_right}
 use Rattle.zone_map.specs.Chains.{cname_target, last_target, chain, chain_links}
 use Rattle.zone_map.specs.Direct.{is_address}
@@ -23,7 +23,7 @@ use Rattle.zone_response.specs.Sections.{as_it_is, part_for, is_signed}
 use Rattle.zone_response.specs.Wildcards.{is_there}
 use Rattle.zone_response.specs.Aname.{addresses, stand_in_answer}
 use Rattle.zone_response.specs.Steps.{End, complete, missing, outside, unfollowed, failed, Next, on, ends, Step, at_end, expanded_names, after_alias, stood_in_step, diverted_step, step}
-use Rattle.zone_response.specs.Descent.{DNAME, diversion}
+use Rattle.zone_response.specs.Descent.{diversion}
 use Rattle.response_laws.specs.Agreement.{IsOrdinaryZone, IsOrdinaryType, IsOrdinary, NoStandIn, led_on_to, unfound_name, chain_names, searched_names}
 use Rattle.response_laws.proofs.AgreementNames.{found_outside}
 use Rattle.response_laws.proofs.Leads.{sent_type}

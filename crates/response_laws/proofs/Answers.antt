@@ -5,7 +5,7 @@ use Rattle.std.specs.Prelude.{Option, Some, None, ◌==◌}
 use Rattle.std.specs.List.{list_any}
 use Rattle.zone_proto.specs.Names.{Name, lower, name_eq, IsAbove}
 use Rattle.zone_proto.specs.Sets.{RRset}
-use Rattle.zone_proto.specs.Types.{CNAME, RRSIG, ANAME}
+use Rattle.zone_proto.specs.Types.{CNAME, RRSIG, ANAME, DNAME}
 use Rattle.zone_proto.proofs.Members.{In, In-Contains, In-from_append, In-append_left, In-append_right}
 use Rattle.zone_map.specs.Wildcards.{exists, renamed}
 use Rattle.zone_map.specs.Zones.{Sets, set_at, IsZone}
@@ -19,7 +19,6 @@ use Rattle.zone_response.specs.Sections.{is_signed, as_it_is, part_for, unless_a
 use Rattle.zone_response.specs.Wildcards.{source_of_synthesis}
 use Rattle.zone_response.specs.Aname.{StandInAnswer, addresses, no_addresses, untold, stand_in_answer}
 use Rattle.zone_response.specs.Steps.{complete, referred, missing, outside, unfollowed, failed, Next, on, ends, Step, at_end, as_found_for, expanded_names, keeps, own_part, stood_in_step, node_step, new_name_step, step_at, step}
-use Rattle.zone_response.specs.Descent.{DNAME}
 use Rattle.response_laws.specs.Contents.{IsAnswerPart, IsSynthesizedAlias, Origin, own, of_wildcard, of_dname, of_aname}
 use Rattle.response_laws.proofs.Dnames.{sent_dname_target, short_is, sent_dname, AreDnames, IsAboveBy, turned_by, stands_among, in_unless}
 use Rattle.response_laws.proofs.LastNames.{dnames_on}

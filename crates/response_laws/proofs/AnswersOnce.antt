@@ -6,7 +6,7 @@ use Rattle.std.specs.List.{list_any}
 use Rattle.zone_proto.specs.NameLaws.{caseless_eq_equiv}
 use Rattle.zone_proto.specs.Names.{Name, lower, name_eq, same_name}
 use Rattle.zone_proto.specs.Sets.{RRset}
-use Rattle.zone_proto.specs.Types.{CNAME, RRSIG, ANY, ANAME}
+use Rattle.zone_proto.specs.Types.{CNAME, RRSIG, ANY, ANAME, DNAME}
 use Rattle.zone_proto.proofs.Members.{In, In-from_append, In-append_left, In-append_right, none_passes, and_right}
 use Rattle.zone_proto.proofs.Names.NameTree.{name_eq-Decides}
 use Rattle.zone_map.specs.AnyTypes.{any_type}
@@ -21,7 +21,6 @@ use Rattle.zone_response.specs.Dname.{synthesized_alias}
 use Rattle.zone_response.specs.Sections.{is_signed, as_it_is, part_for, is_alike, unless_among}
 use Rattle.zone_response.specs.Aname.{StandInAnswer, addresses, no_addresses, untold, stand_in_answer}
 use Rattle.zone_response.specs.Steps.{Next, on, ends, complete, missing, outside, referred, unfollowed, failed, Step, at_end, as_found_for, expanded_names, keeps, own_part, node_step, stood_in_step, new_name_step, step_at, step}
-use Rattle.zone_response.specs.Descent.{DNAME}
 use Rattle.response_laws.specs.Repeats.{have_both, repeats}
 use Rattle.response_laws.specs.Sayings.{asks_alias}
 use Rattle.response_laws.proofs.Dnames.{sent_dname, AreDnames, IsAboveBy, turned_by, in_unless}

@@ -7,14 +7,14 @@ use Rattle.zone_proto.specs.declared.rr_key.RrKey.{RrKey}
 use Rattle.zone_proto.specs.Keys.{key, key_eq}
 use Rattle.zone_proto.specs.Names.{Name, is_above, is_at_or_above, IsAtOrAbove, suffixes}
 use Rattle.zone_proto.specs.Sets.{RRset}
-use Rattle.zone_proto.specs.Types.{NS, CNAME, SOA, DS, RRSIG, NSEC, NSEC3}
+use Rattle.zone_proto.specs.Types.{NS, CNAME, SOA, DS, RRSIG, NSEC, NSEC3, DNAME}
 use Rattle.zone_proto.proofs.Members.{In, In-Contains, Contains-In, In-from_any, any_from_In, and_left, and_right}
 use Rattle.zone_proto.proofs.Names.NameTree.{above_test, suffix_from_at_or_above, is_at_or_above_sound, is_at_or_above_complete}
 use Rattle.zone_proto.proofs.Ordering.KeyOrder.{key_same}
 use Rattle.zone_map.specs.Zones.{Sets, set_at, owns, owners, names_of, types_at}
 use Rattle.zone_map.proofs.Owned.{owner_in, type_in}
 use Rattle.zone_denial.specs.Authority.{is_authoritative, authoritative_names}
-use Rattle.zone_denial.specs.Chains.{DNAME, is_delegation, has_signature, is_stated_at_delegation, IsRightList, is_below_dname, may_be_left_out}
+use Rattle.zone_denial.specs.Chains.{is_delegation, has_signature, is_stated_at_delegation, IsRightList, is_below_dname, may_be_left_out}
 use Rattle.zone_denial.proofs.Chains.Nsec3Names.{is_named, named_in}
 use Rattle.zone_denial.proofs.Names.AuthoritativeNames.{authoritative_listed}
 use Rattle.denial_laws.proofs.Tests.{refuted, either}

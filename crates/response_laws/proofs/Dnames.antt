@@ -11,14 +11,14 @@ use Rattle.zone_proto.proofs.Members.{In, In-from_any, In-from_append, In-append
 use Rattle.zone_proto.proofs.Names.Lower.{lower-lower}
 use Rattle.zone_proto.proofs.Names.NameTree.{name_eq-Decides, above_test}
 use Rattle.zone_proto.proofs.Names.Tree.{above_cases}
-use Rattle.zone_proto.specs.Types.{RRSIG}
+use Rattle.zone_proto.specs.Types.{RRSIG, DNAME}
 use Rattle.zone_map.specs.Zones.{set_at, IsZone}
 use Rattle.zone_response.specs.declared.response.Part.TheVariants as part
 use Rattle.zone_response.specs.Paths.{is_sought}
 use Rattle.zone_response.specs.Queries.{Inquiry}
 use Rattle.zone_response.specs.Dname.{only_target, dname_target, unless_long, synthesized_alias}
 use Rattle.zone_response.specs.Sections.{with_ttl, as_it_is, part_for, is_signed, is_alike, unless_among}
-use Rattle.zone_response.specs.Descent.{DNAME, renaming, diversion}
+use Rattle.zone_response.specs.Descent.{renaming, diversion}
 use Rattle.response_laws.specs.Sayings.{asks_alias, is_of, renames, leads_to, last_name}
 use Rattle.response_laws.proofs.Leads.{same_in_lower, sent_owner, sent_type}
 use Rattle.response_laws.proofs.Passages.{passed_over}

@@ -9,7 +9,7 @@ use Rattle.zone_proto.specs.declared.rr_key.RrKey.{RrKey}
 use Rattle.zone_proto.specs.HashedOwners.{hashed_owner}
 use Rattle.zone_proto.specs.Names.{Name, wire_form, wildcard_under}
 use Rattle.zone_proto.specs.Sets.{RRset}
-use Rattle.zone_proto.specs.Types.{A, NS, SOA, RRSIG, NSEC3, NSEC3PARAM, IN}
+use Rattle.zone_proto.specs.Types.{A, NS, SOA, RRSIG, NSEC3, NSEC3PARAM, IN, DNAME}
 use Rattle.zone_map.specs.Wildcards.{renamed}
 use Rattle.zone_map.specs.Zones.{Sets, put}
 use Rattle.zone_denial.specs.Nsec3Circle.{nsec3_data}
@@ -25,7 +25,6 @@ use Rattle.zone_response.specs.Queries.{Zone}
 use Rattle.zone_response.specs.Dname.{synthesized_alias}
 use Rattle.zone_response.specs.Responses.{IsResponse}
 use Rattle.zone_response.specs.Sections.{Sections, sent, as_it_is}
-use Rattle.zone_response.specs.Descent.{DNAME}
 use Rattle.response_laws.specs.HashedSayings.{shown_nsec3}
 use Rattle.response_laws.specs.Sayings.{data_of, name_error, no_data, referral, saying}
 use Rattle.response_laws.proofs.SayingExamples.{asked, sections}

@@ -12,7 +12,7 @@ use Rattle.zone_proto.specs.Keys.{key, key_eq}
 use Rattle.zone_proto.specs.Names.{Name, base_name, name_eq, IsAtOrAbove, wildcard_under}
 use Rattle.zone_proto.specs.Ranges.{IsOctet}
 use Rattle.zone_proto.specs.Sets.{RRset}
-use Rattle.zone_proto.specs.Types.{A, NS, SOA, DNSKEY, RRSIG, NSEC, NSEC3, NSEC3PARAM, IN}
+use Rattle.zone_proto.specs.Types.{A, NS, SOA, DNSKEY, RRSIG, NSEC, NSEC3, NSEC3PARAM, IN, DNAME}
 use Rattle.zone_proto.proofs.Ordering.KeyOrder.{key_same}
 use Rattle.zone_proto.proofs.Members.{In, Contains-In}
 use Rattle.zone_proto.proofs.Names.NameTree.{name_eq-Decides}
@@ -31,7 +31,6 @@ use Rattle.response_laws.proofs.MetPremises.{type_apart, bare_zone}
 use Rattle.zone_denial.proofs.Hashed.Nsec3Secured.{secured_is_nsec3_circle}
 use Rattle.zone_denial.proofs.Examples.Nsec3Examples.{b, digest_in}
 use Rattle.denial_validation.specs.declared.proof.Proof.TheVariants.{NameError}
-use Rattle.denial_validation.specs.NsecProofs.{DNAME}
 use Rattle.zone_response.specs.declared.response.Part.TheVariants as part
 use Rattle.zone_response.specs.Paths.{path}
 use Rattle.zone_response.specs.Queries.{Zone}

@@ -4,14 +4,14 @@ use Rattle.std.specs.Prelude.{Option, Some, ◌==◌}
 use Rattle.std.specs.List.{Contains}
 use Rattle.zone_proto.specs.declared.rdata.denial.NSEC3PARAM.{NSEC3PARAM as Nsec3Parameters}
 use Rattle.zone_proto.specs.Names.{Name, is_above, IsAtOrAbove, IsAbove, wildcard_under}
-use Rattle.zone_proto.specs.Types.{NS, NSEC, NSEC3}
+use Rattle.zone_proto.specs.Types.{NS, NSEC, NSEC3, DNAME}
 use Rattle.zone_proto.proofs.Members.{In, In-Contains, Contains-In, In-from_any, any_from_In, and_left, and_right}
 use Rattle.zone_proto.proofs.Names.NameTree.{above_test, is_at_or_above_complete}
 use Rattle.zone_map.specs.Wildcards.{exists, closest_encloser as found_encloser}
 use Rattle.zone_map.specs.Zones.{Sets, owns, owners}
 use Rattle.zone_map.proofs.Owned.{owner_owned}
 use Rattle.zone_denial.specs.Authority.{is_below_cut, owns_besides}
-use Rattle.zone_denial.specs.Chains.{DNAME, is_below_dname, is_insecure_delegation, may_be_left_out, IsNsec3Chain}
+use Rattle.zone_denial.specs.Chains.{is_below_dname, is_insecure_delegation, may_be_left_out, IsNsec3Chain}
 use Rattle.zone_denial.specs.Nsec3Denial.{encloser_on}
 use Rattle.zone_denial.specs.WildcardLaws.{OwnsNone}
 use Rattle.zone_denial.proofs.Chains.NsecBelow.{open_itself}

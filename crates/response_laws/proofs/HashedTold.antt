@@ -5,7 +5,7 @@ use Rattle.std.specs.List.{list_any}
 use Rattle.std.specs.Option.{option_map_or}
 use Rattle.zone_proto.specs.declared.rdata.denial.NSEC3PARAM.{NSEC3PARAM as Nsec3Parameters}
 use Rattle.zone_proto.specs.Names.{Name, is_above, is_at_or_above, IsAtOrAbove, IsAbove, wildcard_under, suffixes, proper_ancestors}
-use Rattle.zone_proto.specs.Types.{NS, SOA, DS, NSEC}
+use Rattle.zone_proto.specs.Types.{NS, SOA, DS, NSEC, DNAME}
 use Rattle.zone_proto.proofs.Members.{In, In-Contains, In-from_any, any_from_In, and_left, and_right, not_true}
 use Rattle.zone_proto.proofs.Names.NameTree.{above_test, at_or_above_from_suffix, is_at_or_above_sound, is_at_or_above_complete}
 use Rattle.zone_proto.proofs.Names.Tree.{above_cases}
@@ -21,7 +21,6 @@ use Rattle.zone_denial.proofs.Chains.Nsec3Names.{is_named, named_in, in_named, o
 use Rattle.zone_denial.proofs.Chains.Nsec3Encloses.{wildcard_hashed}
 use Rattle.zone_denial.proofs.Names.LongestAncestors.{IsLongestAbove, longest_is, longest_above, others_above, above_shorter}
 use Rattle.denial_validation.specs.Encloser.{next_closer}
-use Rattle.denial_validation.specs.NsecProofs.{DNAME}
 use Rattle.denial_validation.specs.Nsec3Proofs.{matches, covers, lists, is_of_encloser, is_of_unsigned, denies_type, is_matched, is_encloser, is_handing_on, is_denied, is_covered, is_handed_on, shown_encloser, encloser_and, proves_name_error, proves_no_data, proves_opted_out, proves_wildcard_no_data, proves_wildcard_answer, shows_unsigned_delegation}
 use Rattle.denial_validation.specs.Nsec3Records.{Nsec3Record}
 use Rattle.denial_laws.specs.Scope.{Unreferred}

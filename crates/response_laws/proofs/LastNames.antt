@@ -6,7 +6,7 @@ use Rattle.std.proofs.lemmas.List.{append-nil}
 use Rattle.zone_proto.specs.NameLaws.{caseless_eq_equiv}
 use Rattle.zone_proto.specs.Names.{Name, lower, name_eq, is_at_or_above}
 use Rattle.zone_proto.specs.Sets.{RRset}
-use Rattle.zone_proto.specs.Types.{CNAME, RRSIG, ANY, ANAME}
+use Rattle.zone_proto.specs.Types.{CNAME, RRSIG, ANY, ANAME, DNAME}
 use Rattle.zone_proto.proofs.Members.{In}
 use Rattle.zone_proto.proofs.Names.Lower.{lower-lower}
 use Rattle.zone_map.specs.Chains.{cname_target}
@@ -20,7 +20,7 @@ use Rattle.zone_response.specs.Sections.{is_signed, as_it_is, part_for, unless_a
 use Rattle.zone_response.specs.Wildcards.{source_of_synthesis}
 use Rattle.zone_response.specs.Aname.{StandInAnswer, addresses, no_addresses, untold, stand_in_answer}
 use Rattle.zone_response.specs.Steps.{End, complete, referred, missing, outside, unfollowed, too_long, failed, Next, on, ends, Step, at_end, as_found_for, expanded_names, after_alias, keeps, own_part, stood_in_step, node_step, new_name_step, step_at, step}
-use Rattle.zone_response.specs.Descent.{DNAME, cut, diversion}
+use Rattle.zone_response.specs.Descent.{cut, diversion}
 use Rattle.response_laws.specs.Sayings.{asks_alias, last_name, is_answer}
 use Rattle.response_laws.proofs.Dnames.{sent_dname, short_is, AreDnames, both_dnames, IsAboveBy, turned_by, told_unturned, stands_among, in_unless, passed, alias_leads as dname_leads, alias_stays}
 use Rattle.response_laws.proofs.Leads.{sent_type, made_type, has_target, lowered_target, follows, asked_stands, found_owner, found_stays, alias_leads, own_leads, own_answers}

@@ -13,7 +13,7 @@ use Rattle.zone_proto.specs.Names.{Name, name_cmp, lower, same_name, is_above}
 use Rattle.zone_proto.specs.NameLaws.{caseless_eq_equiv}
 use Rattle.zone_proto.specs.Order.{least}
 use Rattle.zone_proto.specs.Sets.{RRset, record_under}
-use Rattle.zone_proto.specs.Types.{A, CNAME, RRSIG, NSEC3, ANY, has_own_case}
+use Rattle.zone_proto.specs.Types.{A, CNAME, RRSIG, NSEC3, ANY, has_own_case, DNAME}
 use Rattle.zone_proto.proofs.Members.{In-from_filter}
 use Rattle.zone_proto.proofs.Names.Lower.{lower-lower}
 use Rattle.zone_proto.proofs.Names.NameTree.{above_test, above_is_less}
@@ -32,7 +32,6 @@ use Rattle.zone_response.specs.declared.response.Part.TheVariants as part
 use Rattle.zone_response.specs.Nodes.{chosen_type, if_signed, asked_set}
 use Rattle.zone_response.specs.Sections.{with_ttl, sent, as_it_is, part_for, is_signed}
 use Rattle.zone_response.specs.Steps.{as_found_for, own_part}
-use Rattle.zone_response.specs.Descent.{DNAME}
 use Rattle.response_laws.specs.Sayings.{asks_alias, leads_to, is_of, renames, is_answer}
 
 -- ---- the target of an alias, as it is sent

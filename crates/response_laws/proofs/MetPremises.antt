@@ -7,7 +7,7 @@ use Rattle.zone_proto.specs.declared.response_code.ResponseCode.TheVariants as c
 use Rattle.zone_proto.specs.Keys.{key, key_eq}
 use Rattle.zone_proto.specs.Names.{Name, name_eq, is_at_or_above}
 use Rattle.zone_proto.specs.Sets.{RRset}
-use Rattle.zone_proto.specs.Types.{A, NS, SOA, NSEC, NSEC3, DNSKEY}
+use Rattle.zone_proto.specs.Types.{A, NS, SOA, NSEC, NSEC3, DNSKEY, DNAME}
 use Rattle.zone_proto.proofs.Ordering.KeyOrder.{key_same, key_itself}
 use Rattle.zone_proto.proofs.Names.NameTree.{name_eq-Decides}
 use Rattle.zone_proto.proofs.SetLaws.{IsSet-alone}
@@ -19,7 +19,6 @@ use Rattle.zone_denial.specs.NsecLaws.{IsNsecZone}
 use Rattle.zone_denial.specs.NsecSets.{nsec_set, nsec_set_at}
 use Rattle.zone_denial.proofs.Examples.NsecExamples.{origin, start, public_key, bare, bare_set, linked}
 use Rattle.zone_denial.proofs.Chain.NsecSecured.{secured_is_circle}
-use Rattle.denial_validation.specs.NsecProofs.{DNAME}
 use Rattle.zone_response.specs.Paths.{path}
 use Rattle.zone_response.specs.Responses.{IsResponse}
 use Rattle.zone_response.specs.Sections.{Sections}

@@ -3,12 +3,11 @@ use Rattle.std.proofs.Common.{◌≡◌, ℕ, Bool, true, false, cond, List, [],
 use Rattle.std.specs.Prelude.{Option, Some, None, option_to_list, ◌==◌}
 use Rattle.zone_proto.specs.Names.{Name, lower, IsAbove}
 use Rattle.zone_proto.specs.Sets.{RRset}
-use Rattle.zone_proto.specs.Types.{NS, SOA, DS}
+use Rattle.zone_proto.specs.Types.{NS, SOA, DS, DNAME}
 use Rattle.zone_proto.proofs.Members.{In, In-Contains, In-from_append, In-append_left}
 use Rattle.zone_map.specs.Zones.{set_at, owns, IsZone}
 use Rattle.zone_denial.specs.Chains.{chain_sets}
 use Rattle.zone_denial.proofs.Chain.NsecBelow.{above_at}
-use Rattle.denial_validation.specs.NsecProofs.{DNAME}
 use Rattle.zone_response.specs.declared.response.Part.TheVariants as part
 use Rattle.zone_response.specs.Queries.{Zone, Query, inquiry}
 use Rattle.zone_response.specs.Responses.{negative_ttl, child_ds, ds_at, end_sets}

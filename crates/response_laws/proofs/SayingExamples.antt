@@ -8,7 +8,7 @@ use Rattle.zone_proto.specs.declared.response_code.ResponseCode.TheVariants as c
 use Rattle.zone_proto.specs.declared.rr_key.RrKey.{RrKey}
 use Rattle.zone_proto.specs.Names.{Name, wire_form, wildcard_under}
 use Rattle.zone_proto.specs.Sets.{RRset}
-use Rattle.zone_proto.specs.Types.{A, NS, CNAME, SOA, MX, DS, RRSIG, NSEC3, ANAME, IN}
+use Rattle.zone_proto.specs.Types.{A, NS, CNAME, SOA, MX, DS, RRSIG, NSEC3, ANAME, IN, DNAME}
 use Rattle.zone_map.specs.Wildcards.{renamed, found}
 use Rattle.zone_map.specs.Zones.{Sets}
 use Rattle.zone_denial.specs.NsecSets.{nsec_set}
@@ -22,7 +22,6 @@ use Rattle.zone_response.specs.Queries.{Zone, Query}
 use Rattle.zone_response.specs.Dname.{synthesized_alias}
 use Rattle.zone_response.specs.Responses.{IsResponse}
 use Rattle.zone_response.specs.Sections.{Sections, sent, as_it_is}
-use Rattle.zone_response.specs.Descent.{DNAME}
 use Rattle.response_laws.specs.ProvedSayings.{shown, is_signed_by}
 use Rattle.response_laws.specs.Repeats.{repeats}
 use Rattle.response_laws.specs.Sayings.{data_of, name_error, no_data, referral, saying}

@@ -10,12 +10,12 @@ use Rattle.zone_proto.specs.declared.rr_key.RrKey.{RrKey}
 use Rattle.zone_proto.specs.Keys.{key}
 use Rattle.zone_proto.specs.Names.{Name, wire_form}
 use Rattle.zone_proto.specs.Sets.{RRset}
-use Rattle.zone_proto.specs.Types.{A, NS, SOA, RRSIG, NSEC, NSEC3}
+use Rattle.zone_proto.specs.Types.{A, NS, SOA, RRSIG, NSEC, NSEC3, DNAME}
 use Rattle.zone_proto.proofs.SetLaws.{IsSet-alone}
 use Rattle.zone_proto.proofs.Texts.TextFaults.{name_by_tests}
 use Rattle.zone_map.specs.Zones.{Sets, owns, IsStoredAt, IsZone}
 use Rattle.zone_map.proofs.Stored.{IsZone-none, IsZone-put}
-use Rattle.zone_denial.specs.Chains.{DNAME, next_owner, IsRightList, IsInNsecChain, IsNsecChain}
+use Rattle.zone_denial.specs.Chains.{next_owner, IsRightList, IsInNsecChain, IsNsecChain}
 use Rattle.zone_denial.specs.NsecCircle.{next_of, types_of}
 use Rattle.zone_denial.proofs.Examples.NsecExamples.{origin, at_origin, entry, address, start}
 use Rattle.zone_response.specs.declared.response.Part.TheVariants as part

@@ -4,7 +4,7 @@ use Rattle.std.specs.Prelude.{Option, Some, None, option_map, is_some, ◌==◌}
 use Rattle.std.specs.Option.{option_or}
 use Rattle.zone_proto.specs.Names.{Label, Name, name_cmp, name_eq, is_above, is_at_or_above, IsAtOrAbove, IsAbove}
 use Rattle.zone_proto.specs.Sets.{RRset}
-use Rattle.zone_proto.specs.Types.{NS, DS}
+use Rattle.zone_proto.specs.Types.{NS, DS, DNAME}
 use Rattle.zone_proto.proofs.Members.{In-from_any, and_left, and_right}
 use Rattle.zone_proto.proofs.Names.NameTree.{name_eq-Decides, above_test, above_is_less, is_at_or_above_sound, is_at_or_above_complete}
 use Rattle.zone_proto.proofs.Names.Tree.{name_order, above_cases}
@@ -14,7 +14,6 @@ use Rattle.zone_map.proofs.Owned.{owner_owned}
 use Rattle.zone_denial.specs.Authority.{is_below_cut}
 use Rattle.zone_denial.proofs.Chain.NsecBelow.{above_at, comparable}
 use Rattle.zone_denial.proofs.Names.LongestAncestors.{above_above}
-use Rattle.denial_validation.specs.NsecProofs.{DNAME}
 use Rattle.denial_laws.proofs.OwnTypes.{neither}
 use Rattle.zone_response.specs.Queries.{Zone}
 use Rattle.zone_response.specs.Descent.{Diversion, cut, renaming, cut_at, dname_at, diversion_at, diversion_down_to, diversion}

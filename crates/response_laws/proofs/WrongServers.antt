@@ -6,7 +6,7 @@ use Rattle.zone_proto.specs.declared.response_code.ResponseCode.TheVariants as c
 use Rattle.zone_proto.specs.Keys.{key}
 use Rattle.zone_proto.specs.Names.{Name}
 use Rattle.zone_proto.specs.Sets.{RRset}
-use Rattle.zone_proto.specs.Types.{A, NS, CNAME, SOA, MX, ANY, NSEC, DNSKEY, ANAME, IN}
+use Rattle.zone_proto.specs.Types.{A, NS, CNAME, SOA, MX, ANY, NSEC, DNSKEY, ANAME, IN, DNAME}
 use Rattle.zone_proto.proofs.Members.{In-Contains, Contains-In}
 use Rattle.zone_proto.proofs.SetLaws.{IsSet-alone}
 use Rattle.zone_proto.proofs.Texts.TextFaults.{name_by_tests}
@@ -19,7 +19,6 @@ use Rattle.zone_response.specs.Queries.{Zone, Query, inquiry}
 use Rattle.zone_response.specs.Dname.{synthesized_alias}
 use Rattle.zone_response.specs.Responses.{bare, IsResponse}
 use Rattle.zone_response.specs.Sections.{Sections, sent, as_it_is}
-use Rattle.zone_response.specs.Descent.{DNAME}
 use Rattle.response_laws.specs.Contents.{IsGlueOf, HasContents, ResponseHasContents}
 use Rattle.response_laws.specs.Failures.{Fault, without_target, leads_away, unsigned, IsAnswerable, AnswerableIsAnswered}
 use Rattle.response_laws.specs.Sayings.{SaysHowItEnds, ResponseSaysHowItEnds}

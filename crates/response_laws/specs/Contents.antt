@@ -8,7 +8,7 @@ use Rattle.zone_proto.specs.declared.response_code.ResponseCode.{ResponseCode}
 use Rattle.zone_proto.specs.declared.response_code.ResponseCode.TheVariants as code
 use Rattle.zone_proto.specs.Names.{Name, lower, IsAbove, is_at_or_above}
 use Rattle.zone_proto.specs.Sets.{RRset}
-use Rattle.zone_proto.specs.Types.{A, AAAA, NS, SOA, DS, RRSIG, ANAME}
+use Rattle.zone_proto.specs.Types.{A, AAAA, NS, SOA, DS, RRSIG, ANAME, DNAME}
 use Rattle.zone_map.specs.Upserts.{is_denial_type}
 use Rattle.zone_map.specs.Wildcards.{exists, renamed}
 use Rattle.zone_map.specs.Zones.{Sets, set_at, owns, IsZone}
@@ -22,7 +22,7 @@ use Rattle.zone_response.specs.Sections.{Sections, sent, as_it_is, part_for, is_
 use Rattle.zone_response.specs.Wildcards.{source_of_synthesis}
 use Rattle.zone_response.specs.Aname.{addresses, stand_in_answer}
 use Rattle.zone_response.specs.Steps.{keeps}
-use Rattle.zone_response.specs.Descent.{DNAME, Diversion, cut, diversion}
+use Rattle.zone_response.specs.Descent.{Diversion, cut, diversion}
 use Rattle.response_laws.specs.Sayings.{Saying, name_error, no_data, referral, saying}
 use Rattle.response_laws.specs.Servers.{Server}
 

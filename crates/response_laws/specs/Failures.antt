@@ -8,7 +8,7 @@ use Rattle.zone_proto.specs.declared.response_code.ResponseCode.{ResponseCode}
 use Rattle.zone_proto.specs.declared.response_code.ResponseCode.TheVariants as code
 use Rattle.zone_proto.specs.Names.{Name, is_at_or_above}
 use Rattle.zone_proto.specs.Sets.{RRset}
-use Rattle.zone_proto.specs.Types.{IN, SOA, ANAME}
+use Rattle.zone_proto.specs.Types.{IN, SOA, ANAME, DNAME}
 use Rattle.zone_map.specs.Zones.{set_at, owns, IsZone}
 use Rattle.zone_response.specs.Denials.{hashed_owner_of}
 use Rattle.zone_response.specs.Paths.{path}
@@ -19,7 +19,6 @@ use Rattle.zone_response.specs.Responses.{bare, query_hashed, refusal}
 use Rattle.zone_response.specs.Sections.{Sections, is_signed}
 use Rattle.zone_response.specs.Aname.{addresses, untold, stand_in_answer}
 use Rattle.zone_response.specs.Steps.{failed, as_found_for, keeps}
-use Rattle.zone_response.specs.Descent.{DNAME}
 use Rattle.response_laws.specs.Agreement.{HasHashedOwners}
 use Rattle.response_laws.specs.Servers.{Server}
 

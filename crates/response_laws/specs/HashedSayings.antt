@@ -6,7 +6,7 @@ use Rattle.zone_proto.specs.declared.rdata.denial.NSEC3PARAM.{NSEC3PARAM as Nsec
 use Rattle.zone_proto.specs.declared.record.Record.{Record}
 use Rattle.zone_proto.specs.Names.{Name, is_at_or_above, IsAbove, wildcard_under, is_wildcard}
 use Rattle.zone_proto.specs.Sets.{RRset}
-use Rattle.zone_proto.specs.Types.{NS, CNAME, DS, RRSIG, NSEC3}
+use Rattle.zone_proto.specs.Types.{NS, CNAME, DS, RRSIG, NSEC3, DNAME}
 use Rattle.zone_map.specs.Wildcards.{exists, renamed}
 use Rattle.zone_map.specs.Zones.{Sets, IsZone, set_at, owns}
 use Rattle.zone_denial.specs.Authority.{is_below_cut}
@@ -16,7 +16,6 @@ use Rattle.zone_denial.specs.Nsec3Zones.{hash_with, IsHashedOn, HasDistinctDiges
 use Rattle.denial_validation.specs.declared.proof.Proof.{Proof}
 use Rattle.denial_validation.specs.declared.proof.Proof.TheVariants.{NameError, UnsignedDelegation, WildcardNoData}
 use Rattle.denial_validation.specs.Judgement.{nsec3_proof}
-use Rattle.denial_validation.specs.NsecProofs.{DNAME}
 use Rattle.denial_validation.specs.Nsec3Proofs.{proves_name_error, proves_no_data, proves_empty_answer, proves_wildcard_answer, proves_unsigned_delegation}
 use Rattle.denial_validation.specs.Nsec3Records.{Nsec3Record}
 use Rattle.denial_laws.specs.Scope.{is_parents_ds}

@@ -7,7 +7,7 @@ use Rattle.zone_proto.specs.declared.rdata.RData.TheVariants as V
 use Rattle.zone_proto.specs.declared.record.Record.{Record}
 use Rattle.zone_proto.specs.Names.{Name, lower, name_eq, IsAbove, wildcard_under, is_wildcard, base_name}
 use Rattle.zone_proto.specs.Sets.{RRset}
-use Rattle.zone_proto.specs.Types.{NS, SOA, DS, RRSIG}
+use Rattle.zone_proto.specs.Types.{NS, SOA, DS, RRSIG, DNAME}
 use Rattle.zone_map.specs.Wildcards.{exists, renamed}
 use Rattle.zone_map.specs.Zones.{Sets, IsZone, set_at, owns}
 use Rattle.zone_denial.specs.Chains.{chain_sets, IsNsecChain}
@@ -15,7 +15,7 @@ use Rattle.zone_denial.specs.NsecDenial.{nsec_encloser}
 use Rattle.denial_validation.specs.declared.proof.Proof.{Proof}
 use Rattle.denial_validation.specs.declared.proof.Proof.TheVariants.{NameError, UnsignedDelegation, EmptyNonTerminal, NoData, WildcardNoData}
 use Rattle.denial_validation.specs.Judgement.{nsec_proof}
-use Rattle.denial_validation.specs.NsecProofs.{DNAME, proves_name_error, proves_empty_answer, proves_wildcard_answer, proves_unsigned_delegation}
+use Rattle.denial_validation.specs.NsecProofs.{proves_name_error, proves_empty_answer, proves_wildcard_answer, proves_unsigned_delegation}
 use Rattle.denial_validation.specs.NsecRecords.{NsecRecord}
 use Rattle.denial_laws.specs.Chains.{IsInScopeOfChain}
 use Rattle.denial_laws.specs.Scope.{read, AreOfZone, Unreferred, is_parents_ds}

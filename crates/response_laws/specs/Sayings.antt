@@ -6,7 +6,7 @@ use Rattle.zone_proto.specs.declared.response_code.ResponseCode.{ResponseCode}
 use Rattle.zone_proto.specs.declared.response_code.ResponseCode.TheVariants as code
 use Rattle.zone_proto.specs.Names.{Name, lower, same_name, is_above, is_at_or_above}
 use Rattle.zone_proto.specs.Sets.{RRset}
-use Rattle.zone_proto.specs.Types.{NS, CNAME, SOA, RRSIG, ANY}
+use Rattle.zone_proto.specs.Types.{NS, CNAME, SOA, RRSIG, ANY, DNAME}
 use Rattle.zone_map.specs.Chains.{cname_target}
 use Rattle.zone_map.specs.Zones.{IsZone}
 use Rattle.zone_response.specs.Paths.{is_sought, path}
@@ -14,7 +14,6 @@ use Rattle.zone_response.specs.Queries.{Zone, Query, HasOwnDenials, inquiry}
 use Rattle.zone_response.specs.Responses.{bare, yx_domain}
 use Rattle.zone_response.specs.Sections.{Sections}
 use Rattle.zone_response.specs.Steps.{End, complete, referred, missing, outside, unfollowed, too_long, failed}
-use Rattle.zone_response.specs.Descent.{DNAME}
 use Rattle.response_laws.specs.Failures.{WhyAlone}
 use Rattle.response_laws.specs.Servers.{Server}
 

@@ -9,12 +9,11 @@ use Rattle.std.specs.Ordering.{is_eq}
 use Rattle.zone_proto.specs.declared.rr_key.RrKey.{RrKey}
 use Rattle.zone_proto.specs.Keys.{key, key_cmp, key_eq}
 use Rattle.zone_proto.specs.Names.{Name}
-use Rattle.zone_proto.specs.Types.{SOA, CNAME}
+use Rattle.zone_proto.specs.Types.{SOA, CNAME, DNAME}
 use Rattle.zone_proto.proofs.Ordering.KeyOrder.{key_same, key_itself}
 use Rattle.zone_map.proofs.Stored.{all_above}
 use Rattle.zone_proto.specs.Data.{same_data}
 use Rattle.zone_proto.specs.Sets.{first_serial, is_single}
-use Rattle.zone_denial.specs.Chains.{DNAME}
 use Rattle.zone_builder.specs.declared.fault.LoadFault.{LoadFault}
 use Rattle.zone_builder.specs.declared.fault.LoadFault.TheVariants as fault
 use Rattle.zone_builder.specs.declared.given.GivenRecord.{GivenRecord}

@@ -10,9 +10,8 @@ use Rattle.zone_proto.specs.Data.{type_of, same_data}
 use Rattle.zone_proto.specs.Keys.{key_cmp}
 use Rattle.zone_proto.specs.Names.{Name, is_at_or_above, lower, name_eq}
 use Rattle.zone_proto.specs.Sets.{first_serial, is_single}
-use Rattle.zone_proto.specs.Types.{IN, NS, SOA, CNAME, DNSKEY, NSEC3PARAM}
+use Rattle.zone_proto.specs.Types.{IN, NS, SOA, CNAME, DNSKEY, NSEC3PARAM, DNAME}
 use Rattle.zone_map.specs.Upserts.{is_denial_type}
-use Rattle.zone_denial.specs.Chains.{DNAME}
 use Rattle.zone_builder.specs.declared.fault.TheConstants.{MOST_ITERATIONS}
 use Rattle.zone_builder.specs.declared.fault.LoadFault.{LoadFault}
 use Rattle.zone_builder.specs.declared.fault.LoadFault.TheVariants as fault

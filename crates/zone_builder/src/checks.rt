@@ -9,7 +9,6 @@ ghost use Rattle.zone_builder.specs.Groups.{AreOrdered};
 use crate::fault::{LoadFault, MOST_ITERATIONS};
 use crate::given::{GivenRecord, RecordAt};
 use crate::groups::{Group, group_under};
-use zone_denial::type_word::DNAME;
 use zone_proto::{DNSClass, LowerName, ProtoError, RData, RecordType, RrKey};
 
 /// Looks for a record of another class than IN.
@@ -197,6 +196,6 @@ fn stands_once(record_type: RecordType) -> bool
 {
     matches!(
         record_type,
-        RecordType::SOA | RecordType::CNAME | RecordType::ANAME | DNAME
+        RecordType::SOA | RecordType::CNAME | RecordType::ANAME | RecordType::DNAME
     )
 }

@@ -16,7 +16,7 @@ use Rattle.zone_proto.specs.HashedOwners.{hashed_owner, name_or_fault, owner_or_
 use Rattle.zone_proto.specs.Keys.{key, key_eq}
 use Rattle.zone_proto.specs.Names.{Name, IsAbove, IsAtOrAbove, IsName, is_at_or_above, lower, wire_length}
 use Rattle.zone_proto.specs.Sets.{RRset, first_serial}
-use Rattle.zone_proto.specs.Types.{NS, SOA, NSEC, NSEC3, NSEC3PARAM}
+use Rattle.zone_proto.specs.Types.{NS, SOA, NSEC, NSEC3, NSEC3PARAM, DNAME}
 use Rattle.zone_proto.proofs.Members.{In, In-from_filter, and_left, and_right}
 use Rattle.zone_proto.proofs.Names.LabelFaults.{label_fault-none}
 use Rattle.zone_proto.proofs.Names.NameTree.{is_at_or_above_sound}
@@ -24,7 +24,7 @@ use Rattle.zone_proto.proofs.Names.Tree.{above_cases}
 use Rattle.zone_proto.proofs.Ordering.KeyOrder.{key_same}
 use Rattle.zone_map.specs.Zones.{Sets, IsZone, owns, set_at}
 use Rattle.zone_map.proofs.Owned.{set_of}
-use Rattle.zone_denial.specs.Chains.{DNAME, chain_sets, has_parameters, IsNsecChain, IsNsec3Chain}
+use Rattle.zone_denial.specs.Chains.{chain_sets, has_parameters, IsNsecChain, IsNsec3Chain}
 use Rattle.zone_denial.specs.Nsec3Zones.{hash_with}
 use Rattle.zone_denial.proofs.Chains.ChainSets.{sets_are}
 use Rattle.zone_denial.proofs.Names.LongestAncestors.{above_shorter}

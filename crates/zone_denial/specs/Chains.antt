@@ -12,16 +12,12 @@ use Rattle.zone_proto.specs.HashedOwners.{hashed_owner}
 use Rattle.zone_proto.specs.Names.{Name, name_cmp, name_eq, is_above, IsAtOrAbove}
 use Rattle.zone_proto.specs.Order.{is_before, least}
 use Rattle.zone_proto.specs.Sets.{RRset}
-use Rattle.zone_proto.specs.Types.{NS, CNAME, SOA, DS, RRSIG, NSEC, NSEC3, NSEC3PARAM}
+use Rattle.zone_proto.specs.Types.{NS, CNAME, SOA, DS, RRSIG, NSEC, NSEC3, NSEC3PARAM, DNAME}
 use Rattle.zone_map.specs.Upserts.{is_denial_type}
 use Rattle.zone_map.specs.Zones.{Sets, IsZone, set_at, owns, owners}
 use Rattle.zone_denial.specs.Authority.{is_authoritative, owns_besides}
 use Rattle.zone_denial.specs.NsecCircle.{next_of, types_of}
 use Rattle.zone_denial.specs.Nsec3Circle.{first_nsec3, nsec3_data, digests, next_digest}
-
--- another name for all names below the owner (RFC 6672 section 2.1)
-abbrev pub DNAME : ℕ
-DNAME = 39
 
 -- ---- which sets belong to it
 

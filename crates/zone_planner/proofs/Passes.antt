@@ -12,12 +12,12 @@ use Rattle.zone_proto.specs.declared.rr_key.RrKey.{RrKey}
 use Rattle.zone_proto.specs.Keys.{key, key_cmp}
 use Rattle.zone_proto.specs.Names.{Name, is_above, is_at_or_above}
 use Rattle.zone_proto.specs.Sets.{RRset}
-use Rattle.zone_proto.specs.Types.{NS, DS, NSEC}
+use Rattle.zone_proto.specs.Types.{NS, DS, NSEC, DNAME}
 use Rattle.zone_proto.proofs.Members.{In-from_any, any_from_In, In-map, and_left, and_right}
 use Rattle.zone_map.specs.Zones.{Sets, owners, owns}
 use Rattle.zone_map.proofs.Owned.{has_entry, owner_in, owner_owned}
 use Rattle.zone_denial.specs.Authority.{is_below_cut}
-use Rattle.zone_denial.specs.Chains.{DNAME, is_below_dname}
+use Rattle.zone_denial.specs.Chains.{is_below_dname}
 use Rattle.zone_planning.specs.declared.fault.PlanFault.{PlanFault}
 use Rattle.zone_planning.specs.declared.fault.PlanFault.TheVariants as fault
 use Rattle.zone_planner.specs.Zones.{below, first, is_cut, is_left_out, is_made_type, left_out, set_fault, set_fault_below, sets_fault, top_after}

@@ -59,6 +59,9 @@ impl RecordType {
     /// A server of a service (RFC 2782).
     pub const SRV: RecordType = RecordType(33);
 
+    /// Another name for all names below the owner (RFC 6672 section 2.1).
+    pub const DNAME: RecordType = RecordType(39);
+
     /// The digest of a child zone's key (RFC 4034 section 5).
     pub const DS: RecordType = RecordType(43);
 

@@ -2,12 +2,8 @@
 use Rattle.std.specs.Prelude.{ℕ, Bool, ◌&&◌, nat_lt, length}
 use Rattle.std.specs.List.{list_any}
 use Rattle.zone_proto.specs.Names.{Name, is_at_or_above, proper_ancestors}
-use Rattle.zone_proto.specs.Types.{NS}
+use Rattle.zone_proto.specs.Types.{NS, DNAME}
 use Rattle.zone_map.specs.Zones.{Sets, owns}
-
--- another name for all names below the owner (RFC 6672 section 2.1)
-abbrev pub DNAME : ℕ
-DNAME = 39
 
 -- a name below the origin
 abbrev pub is_below : Name → Name → Bool

@@ -7,9 +7,6 @@ ghost use Rattle.zone_publication.specs.Names.{is_below, is_below_cut, is_below_
 use zone_map::RecordMap;
 use zone_proto::{LowerName, ProtoError, RecordSet, RecordType, RrKey};
 
-/// Another name for all names below the owner (RFC 6672 section 2.1).
-const DNAME: RecordType = RecordType(39);
-
 /// The sets of a zone and its origin.
 #[derive(Clone, Copy)]
 pub(crate) struct Zone<'z> {
@@ -92,7 +89,7 @@ impl<'z> Zone<'z> {
         ensures err { IsOkUnless result ProtoError.Memory }
     {
         if self.has(name) {
-            self.owns(name, DNAME)
+            self.owns(name, RecordType::DNAME)
         } else {
             Ok(false)
         }

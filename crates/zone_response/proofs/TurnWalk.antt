@@ -4,10 +4,10 @@ use Rattle.std.specs.Prelude.{Option, Some, None, option_map, ◌==◌}
 use Rattle.std.specs.Option.{option_or}
 use Rattle.zone_proto.specs.Names.{Name, name_eq, is_at_or_above, IsAbove, IsAtOrAbove}
 use Rattle.zone_proto.specs.Sets.{RRset}
-use Rattle.zone_proto.specs.Types.{NS, DS}
+use Rattle.zone_proto.specs.Types.{NS, DS, DNAME}
 use Rattle.zone_proto.proofs.Names.NameTree.{name_eq-Decides, is_at_or_above_sound, is_at_or_above_complete}
 use Rattle.zone_map.specs.Zones.{Sets, set_at}
-use Rattle.zone_response.specs.Descent.{DNAME, Diversion, cut, renaming, cut_at, dname_at, diversion_at, diversion_by, diversion_down_to, diversion_above, diversion}
+use Rattle.zone_response.specs.Descent.{Diversion, cut, renaming, cut_at, dname_at, diversion_at, diversion_by, diversion_down_to, diversion_above, diversion}
 use Rattle.zone_response.specs.Neighbours.{NoLongerOwns}
 use Rattle.zone_response.proofs.NextKeys.{above_from_shorter}
 

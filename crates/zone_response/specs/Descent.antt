@@ -3,14 +3,10 @@ use Rattle.std.specs.Prelude.{ℕ, ◌&&◌, ◌||◌, cond, [], ◌∷◌, ◌=
 use Rattle.std.specs.Option.{option_or}
 use Rattle.zone_proto.specs.Names.{Name, name_eq, is_at_or_above}
 use Rattle.zone_proto.specs.Sets.{RRset}
-use Rattle.zone_proto.specs.Types.{NS, DS}
+use Rattle.zone_proto.specs.Types.{NS, DS, DNAME}
 use Rattle.zone_map.specs.Zones.{Sets, set_at}
 use Rattle.zone_response.specs.declared.descent.Diverting.{Diverting}
 use Rattle.zone_response.specs.declared.descent.Diverting.TheVariants as turning
-
--- the type of a record that renames the names below its owner (RFC 6672 section 2.1)
-abbrev pub DNAME : ℕ
-DNAME = 39
 
 pub data Diversion : Type 0 where
   -- a zone cut, of which this is the NS set

@@ -3,12 +3,11 @@ use Rattle.std.specs.Prelude.{ℕ, zero, suc, Bool, ◌&&◌, ◌||◌, cond, Li
 use Rattle.std.specs.List.{list_any}
 use Rattle.zone_proto.specs.Names.{Name, lower, name_eq}
 use Rattle.zone_proto.specs.Sets.{RRset}
-use Rattle.zone_proto.specs.Types.{RRSIG}
+use Rattle.zone_proto.specs.Types.{RRSIG, DNAME}
 use Rattle.zone_response.specs.declared.paths.Path.{Path as KeptPath}
 use Rattle.zone_response.specs.Queries.{Inquiry}
 use Rattle.zone_response.specs.Sections.{is_signed, sent_sets}
 use Rattle.zone_response.specs.Steps.{End, complete, unfollowed, Next, on, ends, step, end_of}
-use Rattle.zone_response.specs.Descent.{DNAME}
 
 -- the sets of the answer section, the names for which a wildcard answered, and how the search ends
 pub record Path : Type 0 where

@@ -2,7 +2,7 @@
 ghost use Rattle.std.specs.Prelude.{◌≡◌, ◌+◌, ◌*◌, ◌<◌, ◌≤◌, ℕ, None, cond, length, IfOk, IsOkUnless, option_copied, option_map, true};
 ghost use Rattle.zone_map.specs.Zones.{Sets, set_at};
 ghost use Rattle.zone_proto.specs.Names.{is_at_or_above, name_eq};
-ghost use Rattle.zone_proto.specs.Types.{NS, SOA};
+ghost use Rattle.zone_proto.specs.Types.{NS, SOA, DNAME};
 ghost use Rattle.zone_response.specs.NodeSets.{StandsAt};
 ghost use Rattle.zone_response.specs.Descent.{cut_at, diversion, diversion_above, diversion_by, diversion_of};
 ghost use Rattle.zone_response.specs.Neighbours.{IsInTree, NoLongerOwns};
@@ -11,7 +11,6 @@ ghost use Rattle.zone_response.specs.Searches.{names_between};
 use crate::names::same_name;
 use crate::neighbours::labels_before;
 use crate::node_sets::{NodeSets, read_apex, read_node_sets};
-use crate::query_types::DNAME;
 use zone_lookup::InnerInMemory;
 use zone_map::Counter;
 use zone_proto::{LowerName, ProtoError, RecordSet, RecordType, RrKey, Signer};
@@ -77,7 +76,7 @@ pub(crate) fn diversion_from_apex<'z, S: Signer>(
     searches: &mut Counter,
 ) -> Result<Option<Diverting<'z>>, ProtoError>
     requires inside { is_at_or_above origin.now name.now ≡ true }
-    requires apex { StandsAt inner.now.records origin.now SOA DNAME.0 apex }
+    requires apex { StandsAt inner.now.records origin.now SOA DNAME apex }
     ensures ok { (t : ℕ)
         → IfOk result
         (λ found. option_map diversion_of found
@@ -97,7 +96,7 @@ pub(crate) fn diversion_from_apex<'z, S: Signer>(
         }
         let above = RrKey::new(below.name.ancestor(labels)?, RecordType(0));
         searches.add_one();
-        let here = read_node_sets(inner, &above, DNAME, DNAME);
+        let here = read_node_sets(inner, &above, RecordType::DNAME, RecordType::DNAME);
         found = diversion_by(here.ns, here.second_asked).or(found);
         below = above;
     }

@@ -1,13 +1,12 @@
 //! Sets that a search passed and that are what is asked for: they appear once in a section (RFC 2181 section 5.5).
 ghost use Rattle.std.specs.Prelude.{◌≡◌, ◌==◌, ◌&&◌, ◌||◌, map, IfOk, IsOkUnless};
 ghost use Rattle.std.specs.List.{list_any};
-ghost use Rattle.zone_proto.specs.Types.{RRSIG};
+ghost use Rattle.zone_proto.specs.Types.{RRSIG, DNAME};
 ghost use Rattle.zone_response.specs.Paths.{is_sought, unless_answered};
 ghost use Rattle.zone_response.specs.Sections.{sent_set, is_signed};
 ghost use Rattle.zone_response.specs.Steps.{next_of};
 
 use crate::names::same_name;
-use crate::query_types::DNAME;
 use crate::response::{Part, Sent, is_signed};
 use crate::steps::{End, Next};
 use zone_proto::{LowerName, ProtoError, RecordType};
@@ -60,7 +59,7 @@ fn is_sought(item: &Sent<'_>, record_type: RecordType, name: &LowerName) -> Resu
     ensures err { IsOkUnless result ProtoError.Memory }
 {
     let set = item.set.set();
-    if set.record_type() != DNAME || !has_asked(item, record_type) {
+    if set.record_type() != RecordType::DNAME || !has_asked(item, record_type) {
         return Ok(false);
     }
     let owner = LowerName::new(set.name())?;
@@ -69,10 +68,10 @@ fn is_sought(item: &Sent<'_>, record_type: RecordType, name: &LowerName) -> Resu
 
 /// Whether a DNAME set is there with what is asked for: its records, or signatures.
 fn has_asked(item: &Sent<'_>, record_type: RecordType) -> bool
-    ensures { result ≡ (record_type.0 == DNAME.0)
+    ensures { result ≡ (record_type.0 == DNAME)
         || (record_type.0 == RRSIG) && is_signed (sent_set item.now) }
 {
-    record_type == DNAME || record_type == RecordType::RRSIG && goes_out_signed(item)
+    record_type == RecordType::DNAME || record_type == RecordType::RRSIG && goes_out_signed(item)
 }
 
 /// Whether a set is sent with a signature that covers its type.

@@ -4,14 +4,14 @@ ghost use Rattle.std.specs.List.Sorted.{IsStrictlySortedBy};
 ghost use Rattle.std.specs.Map.{keys_of};
 ghost use Rattle.std.specs.Option.{option_or};
 ghost use Rattle.zone_proto.specs.Keys.{key_cmp};
-ghost use Rattle.zone_proto.specs.Types.{NS, SOA};
+ghost use Rattle.zone_proto.specs.Types.{NS, SOA, DNAME};
 ghost use Rattle.zone_map.specs.Direct.{set_if};
 ghost use Rattle.zone_map.specs.Walks.{first_key_from};
 ghost use Rattle.zone_map.specs.Wildcards.{exists};
 ghost use Rattle.zone_map.specs.Zones.{set_at, IsZone};
 ghost use Rattle.zone_response.specs.NodeSets.{sets_from, StandsAt};
 
-use crate::query_types::{DNAME, is_denial_type};
+use crate::query_types::is_denial_type;
 use std::collections::BTreeMap;
 use std::collections::btree_map::Range;
 use zone_lookup::InnerInMemory;
@@ -47,11 +47,11 @@ pub(crate) fn read_apex<'z, S: Signer>(
     inner: &'z InnerInMemory<S>,
     origin: &LowerName,
 ) -> Result<NodeSets<'z>, ProtoError>
-    ensures ok { IfOk result (StandsAt inner.now.records origin.now SOA DNAME.0) }
+    ensures ok { IfOk result (StandsAt inner.now.records origin.now SOA DNAME) }
     ensures err { IsOkUnless result ProtoError.Memory }
 {
     let key = RrKey::first_of(origin)?;
-    Ok(read_node_sets(inner, &key, RecordType::SOA, DNAME))
+    Ok(read_node_sets(inner, &key, RecordType::SOA, RecordType::DNAME))
 }
 
 /// The same in a map of sets by their keys, by its sets from that key on.

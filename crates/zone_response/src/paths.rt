@@ -1,10 +1,9 @@
 //! The path of a query: its name, and the names that its aliases lead on to.
 ghost use Rattle.std.specs.Prelude.{◌≡◌, ◌+◌, ◌≤◌, IfOk, IsOkUnless};
 ghost use Rattle.zone_response.specs.Paths.{path, path_of};
-ghost use Rattle.zone_proto.specs.Types.{SOA};
+ghost use Rattle.zone_proto.specs.Types.{SOA, DNAME};
 ghost use Rattle.zone_response.specs.Queries.{inquiry_of};
 ghost use Rattle.zone_response.specs.NodeSets.{StandsAt};
-ghost use Rattle.zone_response.specs.Descent.{DNAME};
 ghost use Rattle.zone_response.specs.Searches.{most_for_path};
 
 use crate::dname_repeats::unless_answered;

@@ -2,7 +2,7 @@
 ghost use Rattle.std.specs.Prelude.{◌≡◌, ◌+◌, ◌≤◌, ◌++◌, ◌∷◌, [], true, IfOk, OnOk, IsOkUnless};
 ghost use Rattle.zone_map.specs.Chains.{cname_target};
 ghost use Rattle.zone_proto.specs.Names.{is_at_or_above};
-ghost use Rattle.zone_proto.specs.Types.{CNAME, SOA};
+ghost use Rattle.zone_proto.specs.Types.{CNAME, SOA, DNAME};
 ghost use Rattle.zone_lookup.specs.FoundSets.{found_set};
 ghost use Rattle.zone_response.specs.Nodes.{node_of};
 ghost use Rattle.zone_response.specs.Sections.{as_it_is, sent_sets, part_for};
@@ -10,7 +10,7 @@ ghost use Rattle.zone_response.specs.Queries.{inquiry_of};
 ghost use Rattle.zone_response.specs.Dname.{dname_target};
 ghost use Rattle.zone_response.specs.NodeSets.{StandsAt};
 ghost use Rattle.zone_response.specs.Steps.{step, diverted_step, target_step, new_name_step, after_renaming, name_step, wildcard_step, node_step, keeps, as_found_for, expanded_names, own_part, after_alias, missing as missing_at, ends, next_of, Takes};
-ghost use Rattle.zone_response.specs.Descent.{DNAME, diversion_at};
+ghost use Rattle.zone_response.specs.Descent.{diversion_at};
 ghost use Rattle.zone_response.specs.Searches.{most_for_name, most_for_wildcard};
 
 use crate::aname::stand_in_step;

@@ -5,7 +5,6 @@ ghost use Rattle.zone_verify.specs.ChainSets.{sets_of};
 
 use crate::chain_sets::ChainSets;
 use zone_denial::authoritative_keys::is_above;
-use zone_denial::type_word::DNAME;
 use zone_proto::{LowerName, ProtoError, RecordType};
 
 /// Whether a name is a delegation: strictly below the origin, with NS and without SOA (RFC 1034 section 4.2). Its only
@@ -50,7 +49,7 @@ pub(crate) fn is_below_dname(sets: &ChainSets<'_>, name: &LowerName) -> Result<b
     let mut ancestor = name.clone()?;
     for _step in 0..name.num_labels() {
         ancestor.shorten();
-        if sets.owns(&ancestor, DNAME)? {
+        if sets.owns(&ancestor, RecordType::DNAME)? {
             return Ok(true);
         }
     }

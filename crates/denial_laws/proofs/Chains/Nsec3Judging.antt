@@ -7,7 +7,7 @@ use Rattle.std.specs.Option.{option_map_or}
 use Rattle.zone_proto.specs.declared.rdata.denial.NSEC3PARAM.{NSEC3PARAM as Nsec3Parameters}
 use Rattle.zone_proto.specs.HashedOwners.{hashed_owner}
 use Rattle.zone_proto.specs.Names.{Name, asterisk_label, is_above, is_at_or_above, IsAtOrAbove, IsAbove, proper_ancestors, wildcard_under, is_wildcard}
-use Rattle.zone_proto.specs.Types.{NS, SOA, RRSIG, NSEC, NSEC3}
+use Rattle.zone_proto.specs.Types.{NS, SOA, RRSIG, NSEC, NSEC3, DNAME}
 use Rattle.zone_proto.proofs.Members.{In, In-Contains, Contains-In, In-from_any, any_from_In, none_passes, and_left, and_right, or_right}
 use Rattle.zone_proto.proofs.Names.NameTree.{above_test, is_at_or_above_sound, is_at_or_above_complete}
 use Rattle.zone_proto.proofs.Names.Tree.{above_cases}
@@ -31,7 +31,6 @@ use Rattle.zone_denial.proofs.Chains.Nsec3Names.{is_named, named_in, in_named, o
 use Rattle.zone_denial.proofs.Chain.NsecAskedWildcard.{other_type}
 use Rattle.zone_denial.proofs.Chain.NsecBelow.{above_at, above_through}
 use Rattle.denial_validation.specs.Encloser.{next_closer}
-use Rattle.denial_validation.specs.NsecProofs.{DNAME}
 use Rattle.denial_validation.specs.Nsec3Proofs.{lists, is_of_encloser, matches, covers, is_matched, shown_encloser, encloser_and}
 use Rattle.denial_validation.specs.Nsec3Records.{Nsec3Record}
 use Rattle.denial_laws.specs.Nsec3Chains.{IsInNsec3ScopeOfChain}

@@ -6,7 +6,7 @@ use Rattle.std.specs.List.{list_any, Contains}
 use Rattle.std.proofs.lemmas.List.{length-append}
 use Rattle.zone_proto.specs.declared.rdata.denial.NSEC3PARAM.{NSEC3PARAM as Nsec3Parameters}
 use Rattle.zone_proto.specs.Names.{Name, base_name, is_above, is_at_or_above, suffixes, IsAtOrAbove, IsAbove, proper_ancestors}
-use Rattle.zone_proto.specs.Types.{NS, SOA, NSEC3}
+use Rattle.zone_proto.specs.Types.{NS, SOA, NSEC3, DNAME}
 use Rattle.zone_proto.proofs.Members.{In, In-Contains, Contains-In, In-from_filter, In-from_any, any_from_In, and_left, and_right, not_true}
 use Rattle.zone_proto.proofs.Names.NameTree.{above_test, at_or_above_from_suffix, suffix_from_at_or_above, is_at_or_above_complete}
 use Rattle.zone_proto.proofs.Names.Tree.{above_cases}
@@ -22,7 +22,6 @@ use Rattle.zone_denial.proofs.Chain.NsecBelow.{above_at, comparable}
 use Rattle.denial_validation.specs.declared.proof.Proof.{Proof}
 use Rattle.denial_validation.specs.declared.proof.Proof.TheVariants.{WildcardAnswer}
 use Rattle.denial_validation.specs.Judgement.{nsec3_proof}
-use Rattle.denial_validation.specs.NsecProofs.{DNAME}
 use Rattle.denial_validation.specs.Nsec3Proofs.{lists, is_of_encloser, is_of_unsigned, denies_type, matches, is_matched, is_covered, is_opted_out, is_denied, is_handing_on, is_handed_on, encloser_and, covered_closer, wildcard_answer}
 use Rattle.denial_validation.specs.Nsec3Records.{Nsec3Record}
 use Rattle.denial_laws.specs.Nsec3Scope.{read_nsec3_sets, AreNsec3OfZone}

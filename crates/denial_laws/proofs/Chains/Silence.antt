@@ -2,7 +2,7 @@
 use Rattle.std.proofs.Common.{◌≡◌, Bool, true, false, not, List, ◌&&◌, ◌||◌, refl, sym, ap, ◌∙◌, true≢false, ◌⊎◌, inl, inr, Less}
 use Rattle.zone_proto.specs.Names.{Name, name_cmp, name_eq, is_above, is_at_or_above, IsAtOrAbove, IsAbove}
 use Rattle.zone_proto.specs.Order.{is_upto}
-use Rattle.zone_proto.specs.Types.{NS, SOA, NSEC}
+use Rattle.zone_proto.specs.Types.{NS, SOA, NSEC, DNAME}
 use Rattle.zone_proto.proofs.Members.{none_passes, and_right}
 use Rattle.zone_proto.proofs.Names.NameTree.{name_eq-Decides, above_test, above_is_less, is_at_or_above_complete}
 use Rattle.zone_proto.proofs.Names.Tree.{name_order, above_cases, together}
@@ -13,7 +13,7 @@ use Rattle.zone_denial.specs.Authority.{is_below_cut, owns_besides}
 use Rattle.zone_denial.specs.Chains.{is_below_dname, next_owner, IsNsecChain}
 use Rattle.zone_denial.proofs.Chain.NsecBelow.{above_at}
 use Rattle.zone_denial.proofs.Chains.NsecLists.{lists_all_owned}
-use Rattle.denial_validation.specs.NsecProofs.{DNAME, lists, is_of_zone, may_apply_to, covers}
+use Rattle.denial_validation.specs.NsecProofs.{lists, is_of_zone, may_apply_to, covers}
 use Rattle.denial_validation.specs.NsecRecords.{NsecRecord}
 use Rattle.denial_laws.specs.Chains.{ChainNothingBelowCut}
 use Rattle.denial_laws.specs.Scope.{AreOfZone}

@@ -3,7 +3,7 @@ use Rattle.std.proofs.Common.{◌≡◌, ℕ, Bool, true, false, not, ◌&&◌, 
 use Rattle.std.specs.Prelude.{Some, is_some}
 use Rattle.zone_proto.specs.Names.{Name, name_cmp, name_eq, lower, is_above, IsAtOrAbove, IsAbove}
 use Rattle.zone_proto.specs.Order.{is_before}
-use Rattle.zone_proto.specs.Types.{NS, SOA, NSEC}
+use Rattle.zone_proto.specs.Types.{NS, SOA, NSEC, DNAME}
 use Rattle.zone_proto.proofs.Members.{In, Contains-In, In-from_filter_map, none_passes, and_left, and_right, or_left, or_right, not_true}
 use Rattle.zone_proto.proofs.Names.NameTree.{name_eq-Decides, above_test, is_at_or_above_sound, is_at_or_above_complete}
 use Rattle.zone_proto.proofs.Ordering.Orders.{irrefl}
@@ -20,7 +20,7 @@ use Rattle.zone_denial.proofs.Chain.NsecLists.{owner_elsewhere}
 use Rattle.zone_denial.proofs.Chains.NsecBelow.{next_below_empty}
 use Rattle.zone_denial.proofs.Chains.NsecLinks.{owner_inside, next_owned}
 use Rattle.zone_denial.proofs.Chains.NsecLists.{lists_all_owned, delegation_below, delegation_owns, not_delegation}
-use Rattle.denial_validation.specs.NsecProofs.{DNAME, lists, is_ancestor_delegation, may_apply_to, covers as tells_past, denies_name, shows_empty}
+use Rattle.denial_validation.specs.NsecProofs.{lists, is_ancestor_delegation, may_apply_to, covers as tells_past, denies_name, shows_empty}
 use Rattle.denial_validation.specs.NsecRecords.{NsecRecord}
 use Rattle.denial_laws.specs.Scope.{denial_records}
 use Rattle.denial_laws.specs.Chains.{IsInScopeOfChain}

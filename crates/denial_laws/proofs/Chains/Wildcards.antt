@@ -10,10 +10,11 @@ use Rattle.zone_map.specs.Wildcards.{exists, asked_wildcard, asked_wildcard_exis
 use Rattle.zone_map.specs.Zones.{Sets, owners, owns_at_or_below}
 use Rattle.zone_map.proofs.Owned.{owner_owned}
 use Rattle.zone_map.proofs.Wildcards.{wildcard_is_of_closest_encloser}
-use Rattle.zone_denial.specs.Chains.{DNAME, is_below_dname}
+use Rattle.zone_denial.specs.Chains.{is_below_dname}
 use Rattle.zone_denial.specs.NsecDenial.{nsec_encloser}
 use Rattle.zone_denial.proofs.Chains.NsecAskedWildcard.{exists_is, proved_wildcard_is_asked}
 use Rattle.zone_denial.proofs.Names.ExistingAncestors.{unowned_absent}
+use Rattle.zone_proto.specs.Types.{DNAME}
 use Rattle.denial_laws.specs.Chains.{IsInScopeOfChain}
 
 -- above a name in scope no DNAME stands

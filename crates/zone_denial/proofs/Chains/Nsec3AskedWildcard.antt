@@ -5,7 +5,7 @@ use Rattle.std.specs.Cmp.{both_ways}
 use Rattle.std.specs.List.{Contains}
 use Rattle.zone_proto.specs.declared.rdata.denial.NSEC3PARAM.{NSEC3PARAM as Nsec3Parameters}
 use Rattle.zone_proto.specs.Names.{Name, is_at_or_above, IsAbove, IsAtOrAbove, proper_ancestors, wildcard_under}
-use Rattle.zone_proto.specs.Types.{NS, NSEC, NSEC3}
+use Rattle.zone_proto.specs.Types.{NS, NSEC, NSEC3, DNAME}
 use Rattle.zone_proto.proofs.Members.{In-Contains, Contains-In, and_left, and_right, not_true}
 use Rattle.zone_proto.proofs.Names.NameTree.{above_test, above_is_less, is_at_or_above_sound, is_at_or_above_complete}
 use Rattle.zone_proto.proofs.Names.Tree.{name_order, above_cases}
@@ -14,7 +14,7 @@ use Rattle.zone_map.specs.Wildcards.{exists}
 use Rattle.zone_map.specs.Zones.{Sets, owns}
 use Rattle.zone_denial.specs.Authority.{is_below_cut, owns_besides, is_authoritative}
 use Rattle.zone_denial.specs.ChainLaws.{Nsec3ChainEnclosersAgree, Nsec3ChainProvedWildcardIsAsked, Nsec3ChainAbsentWildcardIsDenied}
-use Rattle.zone_denial.specs.Chains.{DNAME, is_below_dname, is_insecure_delegation, may_be_left_out, IsNsec3Chain}
+use Rattle.zone_denial.specs.Chains.{is_below_dname, is_insecure_delegation, may_be_left_out, IsNsec3Chain}
 use Rattle.zone_denial.specs.Nsec3Denial.{encloser_on}
 use Rattle.zone_denial.specs.WildcardLaws.{OwnsNone}
 use Rattle.zone_denial.proofs.Chain.NsecAskedWildcard.{other_type, plain_type, absent_wildcard}

@@ -3,7 +3,7 @@ use Rattle.std.proofs.Common.{◌≡◌, ℕ, Bool, true, false, ◌&&◌, List,
 use Rattle.std.specs.Prelude.{filter}
 use Rattle.zone_proto.specs.Names.{Name, name_cmp, is_above, is_at_or_above, IsAbove, IsAtOrAbove}
 use Rattle.zone_proto.specs.Order.{is_upto}
-use Rattle.zone_proto.specs.Types.{NS, NSEC}
+use Rattle.zone_proto.specs.Types.{NS, NSEC, DNAME}
 use Rattle.zone_proto.proofs.Members.{In, In-filter, In-from_filter, In-from_any, none_passes, and_left, and_right}
 use Rattle.zone_proto.proofs.Names.NameTree.{above_test, above_is_less, is_at_or_above_sound, is_at_or_above_complete}
 use Rattle.zone_proto.proofs.Ordering.Orders.{IsTop, has_greatest, irrefl, asym, upto_cases, upto_before, upto_from_not_before}
@@ -12,7 +12,7 @@ use Rattle.zone_map.specs.Zones.{Sets, owns, owners, types_at, names_of, owns_at
 use Rattle.zone_map.proofs.Owned.{owner_in, owner_owned, name_in, name_owned, type_in}
 use Rattle.zone_denial.specs.Authority.{is_below_cut}
 use Rattle.zone_denial.specs.ChainLaws.{ChainNoNextBelowAbsent, ChainNextBelowEmpty}
-use Rattle.zone_denial.specs.Chains.{DNAME, is_below_dname, IsNsecChain, next_owner}
+use Rattle.zone_denial.specs.Chains.{is_below_dname, IsNsecChain, next_owner}
 use Rattle.zone_denial.proofs.InOrder.{flipped}
 use Rattle.zone_denial.proofs.Names.AuthoritativeNames.{authoritative_from, besides_alone}
 use Rattle.zone_denial.proofs.Names.LongestAncestors.{above_above}

@@ -11,7 +11,7 @@ use Rattle.zone_proto.specs.Keys.{key, key_eq}
 use Rattle.zone_proto.specs.Names.{Name, name_eq, is_root, is_wildcard, is_above, is_at_or_above, suffixes, proper_ancestors, wildcard_under}
 use Rattle.zone_proto.specs.Order.{least}
 use Rattle.zone_proto.specs.Sets.{RRset}
-use Rattle.zone_proto.specs.Types.{NS, CNAME, SOA, DS, ANAME}
+use Rattle.zone_proto.specs.Types.{NS, CNAME, SOA, DS, ANAME, DNAME}
 use Rattle.zone_proto.proofs.Members.{In, In-from_filter}
 use Rattle.zone_proto.proofs.Ordering.KeyOrder.{key_same}
 use Rattle.zone_proto.proofs.Ordering.Orders.{greatest_is, number_order}
@@ -21,7 +21,7 @@ use Rattle.zone_map.specs.Wildcards.{exists, asked_wildcard, found, renamed}
 use Rattle.zone_map.specs.Zones.{Sets, set_at, owns, owners}
 use Rattle.zone_denial.specs.Authority.{is_below_cut}
 use Rattle.zone_denial.specs.ChainLaws.{ChainSetsKeepSets, ChainSetsKeepNames, ChainSetsKeepFound}
-use Rattle.zone_denial.specs.Chains.{DNAME, is_of_chain, stays, chain_sets, is_below_dname}
+use Rattle.zone_denial.specs.Chains.{is_of_chain, stays, chain_sets, is_below_dname}
 use Rattle.zone_denial.proofs.InOrder.{flipped}
 
 module _ (chain : Option NxProofKind) where

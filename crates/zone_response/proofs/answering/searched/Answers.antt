@@ -1,14 +1,13 @@
 use Rattle.std.proofs.Common.{◌≡◌, ◌≤◌, ◌+◌, length, sym, ap, ◌∙◌, subst}
 use Rattle.std.specs.Prelude.{Some, None, option_copied}
 use Rattle.zone_proto.specs.Names.{Name}
-use Rattle.zone_proto.specs.Types.{SOA}
+use Rattle.zone_proto.specs.Types.{SOA, DNAME}
 use Rattle.zone_map.specs.Zones.{set_at}
 use Rattle.zone_response.specs.Paths.{Path, path_of}
 use Rattle.zone_response.specs.Queries.{zone_of, inquiry_of}
 use Rattle.zone_response.specs.Responses.{path_hashed}
 use Rattle.zone_response.specs.Sections.{sections}
 use Rattle.zone_response.specs.NodeSets.{StandsAt}
-use Rattle.zone_response.specs.Descent.{DNAME}
 use Rattle.zone_response.proofs.ResponseCases.{without_soa, with_soa}
 use Rattle.zone_response.proofs.answering.searched.Goals as goal
 

@@ -3,10 +3,10 @@ use Rattle.std.specs.Prelude.{None, option_map}
 use Rattle.std.specs.Option.{option_or}
 use Rattle.zone_proto.specs.declared.rr_key.RrKey.{RrKey}
 use Rattle.zone_proto.specs.Names.{Name, name_eq, is_at_or_above, IsAbove}
-use Rattle.zone_proto.specs.Types.{NS}
+use Rattle.zone_proto.specs.Types.{NS, DNAME}
 use Rattle.zone_proto.proofs.Names.NameTree.{is_at_or_above_sound, is_at_or_above_complete}
 use Rattle.zone_map.specs.Zones.{owns_at_or_below, set_at}
-use Rattle.zone_response.specs.Descent.{DNAME, diversion_above, diversion_by, diversion_of}
+use Rattle.zone_response.specs.Descent.{diversion_above, diversion_by, diversion_of}
 use Rattle.zone_response.specs.Neighbours.{NoLongerOwns}
 use Rattle.zone_response.specs.Searches.{names_between}
 use Rattle.zone_response.proofs.NextKeys.{at_from_above, last_above, last_length, nested}
