@@ -6,12 +6,8 @@ use message_reading::Header;
 use std::alloc::AllocError;
 
 /// Writes a response of a header alone, in place of the octets of `out`: what could not be read has no question that could be
-/// repeated.
-pub(crate) fn write_bare_header(
-    out: &mut Vec<u8>,
-    header: Header,
-    code: u8,
-) -> Result<(), AllocError>
+/// repeated. Fails only for lack of memory.
+pub fn write_bare_header(out: &mut Vec<u8>, header: Header, code: u8) -> Result<(), AllocError>
     requires opcode { header.opcode < 16 }
     requires code { code < 16 }
     ensures header { OnOk result (IsBareHeader header code out.new.items) }

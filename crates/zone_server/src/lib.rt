@@ -23,11 +23,14 @@ mod waiting;
 mod zones;
 
 pub use answering::{Answered, answer};
+pub use bare_header::write_bare_header;
 pub use frames::Mode;
 pub use listed_zones::ListedZones;
+pub use sending::{send_code, send_soa};
 pub use server::Server;
 pub use serving::serve_frames;
 pub use transfer_policy::TransferPolicy;
-pub use transport::Transport;
+pub use transfer_reply::{TransferReply, asks_for_transfer, reply_to};
+pub use transport::{Transport, limit_for};
 pub use waiting::Stop;
 pub use zones::ServedZones;

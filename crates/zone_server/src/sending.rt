@@ -81,8 +81,9 @@ fn send_groups(
     write_response(alloc, out, &message, limit)
 }
 
-/// Writes a response of a code alone, with the question, in place of the octets of `out`.
-pub(crate) fn send_code(
+/// Writes a response of a code alone, with the question, within a limit of octets, in place of the octets of `out`. Fails only for lack
+/// of memory.
+pub fn send_code(
     alloc: Global,
     out: &mut Vec<u8>,
     query: &Query,
@@ -127,8 +128,9 @@ fn send_bare(
     write_response(alloc, out, &message, limit)
 }
 
-/// Writes a response of the zone's SOA alone, in place of the octets of `out`; where no octets are its data, one of `ServFail`.
-pub(crate) fn send_soa(
+/// Writes a response of the zone's SOA alone, within a limit of octets, in place of the octets of `out`; where no octets are its data, one
+/// of `ServFail`. Fails only for lack of memory.
+pub fn send_soa(
     alloc: Global,
     out: &mut Vec<u8>,
     query: &Query,

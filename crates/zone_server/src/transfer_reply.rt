@@ -31,7 +31,7 @@ const HALF_OF_SERIALS: u32 = 2_147_483_648;
 
 /// What a query for a transfer is answered with.
 #[derive(Clone, Copy)]
-pub(crate) enum TransferReply<'z> {
+pub enum TransferReply<'z> {
     /// A code alone.
     Code(ResponseCode),
     /// The zone's SOA alone.
@@ -42,7 +42,7 @@ pub(crate) enum TransferReply<'z> {
 
 /// Whether a query is answered by a transfer: IXFR is, and AXFR over TCP. Over UDP AXFR isn't defined (RFC 5936 section
 /// 4.2).
-pub(crate) fn asks_for_transfer(transport: Transport, query: &Query) -> bool
+pub fn asks_for_transfer(transport: Transport, query: &Query) -> bool
     ensures { result ≡ asks_for_transfer transport query.now }
 {
     let query_type = query.question.query_type;
@@ -61,7 +61,7 @@ fn is_stream(transport: Transport) -> bool
 
 /// What a query for a transfer, which `message` is read as, is answered with. `policies` tells of each of the zones who
 /// may transfer it, in their order. Fails only for lack of memory.
-pub(crate) fn reply_to<'z, S: Signer, H: Nsec3Hash>(
+pub fn reply_to<'z, S: Signer, H: Nsec3Hash>(
     alloc: Global,
     zones: &ListedZones<'z, S, H>,
     policies: &[TransferPolicy],

@@ -19,7 +19,7 @@ pub enum Transport {
 
 /// How many octets the response to a query may have: over UDP 512 where the query has no OPT record (RFC 1035 section
 /// 4.2.1), and never fewer (RFC 6891 section 6.2.3).
-pub(crate) fn limit_for(transport: Transport, query: &Query) -> u16
+pub fn limit_for(transport: Transport, query: &Query) -> u16
     ensures { result ≡ limit_for transport query.now.extension }
 {
     match transport {
