@@ -40,4 +40,5 @@ pub use query::{Extension, Query};
 pub use query_reader::read_query;
 pub use question::{Question, question_of};
 pub use record_frame::{RecordFrame, record_frame_of};
+pub use type_map::types_of;
 pub use unread::{behind_owner, behind_questions};

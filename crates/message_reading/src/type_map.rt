@@ -6,8 +6,13 @@ use crate::octets::{octet_of, octets_of};
 use std::alloc::{AllocError, Global};
 use zone_proto::{ProtoError, RecordType, Seq};
 
-/// The types of a map that octets are.
-pub(crate) fn types_of(alloc: Global, octets: &[u8]) -> Result<Option<Seq<RecordType>>, ProtoError>
+/// The types of a type bit map (RFC 4034 section 4.1.2), in ascending order, but for those that no data of a zone have; none if the
+/// octets aren't a map: blocks of windows that ascend, each of 1 to 32 octets, the last of which isn't 0. No block is a map of no types.
+///
+/// # Errors
+///
+/// `Memory` if memory is refused.
+pub fn types_of(alloc: Global, octets: &[u8]) -> Result<Option<Seq<RecordType>>, ProtoError>
     ensures { IfOk result (λ types. types ≡ types_of octets.now) }
 {
     let mut types = Vec::new(alloc);

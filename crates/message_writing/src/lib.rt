@@ -28,3 +28,4 @@ pub use front_writer::write_front;
 pub use plain_data::push_plain_data;
 pub use response::{Group, Response};
 pub use response_writer::write_response;
+pub use type_map::push_types;

@@ -7,8 +7,12 @@ ghost use Rattle.message_writing.specs.TypeMapText.{bit_taken, bits_taken, block
 use std::alloc::AllocError;
 use zone_proto::RecordType;
 
-/// Appends the map of types, which ascend: a block for each window that has one.
-pub(crate) fn push_types(out: &mut Vec<u8>, types: &[RecordType]) -> Result<(), AllocError>
+/// Appends the type bit map of types (RFC 4034 section 4.1.2), which ascend: a block for each window that has one.
+///
+/// # Errors
+///
+/// `AllocError` if memory is refused; octets of the map may stand in `out` then.
+pub fn push_types(out: &mut Vec<u8>, types: &[RecordType]) -> Result<(), AllocError>
     ensures { OnOk result (out.new.items ≡ out.old.items ++ types_text types.now) }
 {
     let mut left = types;
