@@ -4,7 +4,6 @@
 #include <errno.h>
 #include <poll.h>
 #include <stdio.h>
-#include <stdlib.h>
 #include <string.h>
 #include <sys/socket.h>
 #include <sys/stat.h>
@@ -94,10 +93,9 @@ static size_t reply_to(char *line, char *reply, struct worker *workers, size_t w
 }
 
 int control_take(int listener, struct worker *workers, size_t worker_count) {
-    char line[COMMAND], *reply = malloc(REPLY);
+    static char line[COMMAND], reply[REPLY];   /* where memory runs out, there are commands still */
     int is_over = 0, fd = accept4(listener, NULL, NULL, SOCK_CLOEXEC | SOCK_NONBLOCK);
-    if (fd >= 0 && reply && read_line(fd, line)) write_all(fd, reply, reply_to(line, reply, workers, worker_count, &is_over));
+    if (fd >= 0 && read_line(fd, line)) write_all(fd, reply, reply_to(line, reply, workers, worker_count, &is_over));
     if (fd >= 0) close(fd);
-    free(reply);
     return is_over;
 }

@@ -13,7 +13,6 @@
 #include <sys/prctl.h>
 #include <sys/resource.h>
 #include <sys/signalfd.h>
-#include <time.h>
 #include <unistd.h>
 
 #include "config.h"
@@ -25,14 +24,16 @@
 #include "zones.h"
 
 enum { SIGNALS, CONTROL, FILES, POLLED };
-enum { SETTLE = 300, PAIRS = 64 };   /* SETTLE: milliseconds without a change of a file before it is read */
+enum { SETTLE = 300000, LATEST = 3000000, PAIRS = 64 };   /* microseconds without a change of a file before it is read, and if they don't end */
 
 static struct config config;
 static struct worker *workers;
 static size_t worker_count;
 static int watcher = -1;
 
-static void watch(const char *folder) { inotify_add_watch(watcher, folder, IN_CLOSE_WRITE | IN_MOVED_TO | IN_MOVED_FROM | IN_DELETE | IN_CREATE); }
+static void watch(const char *folder) {
+    if (watcher >= 0) inotify_add_watch(watcher, folder, IN_CLOSE_WRITE | IN_MOVE | IN_DELETE | IN_CREATE | IN_MOVE_SELF | IN_DELETE_SELF);
+}
 
 /* Gives up what only opening sockets needs: the folders outside of the one to stay in, and the rights of root. */
 static int drop_privileges(void) {
@@ -90,42 +91,38 @@ static int make_workers(void) {
 
 static void renew(int all) {
     sockets_notify("RELOADING=1");
+    zones_folders(watch);   /* before they are read, so that no change goes unseen */
     size_t faults = zones_renew(all);
     log_line("zones read: %zu, of which %zu have a file that is bad", zones_count(), faults);
-    if (watcher >= 0) zones_folders(watch);
     sockets_notify("READY=1");
-}
-
-static int milliseconds_since(const struct timespec *began) {
-    struct timespec now;
-    clock_gettime(CLOCK_MONOTONIC, &now);
-    return (now.tv_sec - began->tv_sec) * 1000 + (now.tv_nsec - began->tv_nsec) / 1000000;
 }
 
 /* Takes signals, commands and changes of files, until one of them ends it. */
 static void manage(int signals, int control) {
     struct pollfd polled[POLLED] = {[SIGNALS] = {signals, POLLIN, 0}, [CONTROL] = {control, POLLIN, 0}, [FILES] = {watcher, POLLIN, 0}};
-    struct timespec changed;
-    int is_changed = 0;
+    uint64_t due = 0, latest = 0;   /* when files that have changed are read; 0: none has */
     for (;;) {
-        int wait = is_changed ? SETTLE - milliseconds_since(&changed) : -1;
-        if ((!is_changed || wait > 0) && poll(polled, POLLED, wait) < 0 && errno != EINTR) return;
+        uint64_t now = microseconds();
+        if (due && (now >= due || now >= latest)) {
+            due = 0;
+            renew(0);
+        }
+        if (poll(polled, POLLED, due ? (int)((due - now) / 1000) + 1 : -1) < 0 && errno != EINTR) return;
         struct signalfd_siginfo info;
         if (polled[SIGNALS].revents && read(signals, &info, sizeof info) == sizeof info) {
             if (info.ssi_signo != SIGHUP) return;
             log_open(config.log, config.query_log, config.query_log_every);
             renew(0);
         }
-        if (polled[CONTROL].revents && control_take(control, workers, worker_count)) return;
+        if (polled[CONTROL].revents) {
+            if (control_take(control, workers, worker_count)) return;
+            zones_folders(watch);   /* a command may have added some */
+        }
         if (polled[FILES].revents) {
             char events[4096];
             while (read(watcher, events, sizeof events) > 0) {}
-            clock_gettime(CLOCK_MONOTONIC, &changed);
-            is_changed = 1;
-        }
-        if (is_changed && milliseconds_since(&changed) >= SETTLE) {
-            is_changed = 0;
-            renew(0);
+            latest = due ? latest : microseconds() + LATEST;
+            due = microseconds() + SETTLE;
         }
     }
 }

@@ -2,6 +2,7 @@
 #include "sockets.h"
 
 #include <errno.h>
+#include <fcntl.h>
 #include <netinet/in.h>
 #include <stdlib.h>
 #include <string.h>
@@ -62,6 +63,8 @@ int sockets_inherited(int *sockets, size_t most) {
             log_line("the service manager handed over a socket that is neither UDP nor TCP, or too many");
             return -1;
         }
+        fcntl(fd, F_SETFL, O_NONBLOCK);   /* several workers are woken for a client that one of them takes */
+        fcntl(fd, F_SETFD, FD_CLOEXEC);
         if (kind == SOCK_DGRAM) prepare_datagrams(fd, family);
         sockets[kind == SOCK_DGRAM ? 2 * datagrams++ : 2 * listeners++ + 1] = fd;
     }

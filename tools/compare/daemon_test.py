@@ -57,14 +57,15 @@ def need(holds, what):
 class Server:
     """A running server in a folder of its own."""
 
-    def __init__(self, room, *lines, zones=("example.com",), workers=2, before=None):
-        self.folder, self.before = tempfile.mkdtemp(dir=room), before
-        self.room, self.port = room, peers.free_port()
+    def __init__(self, room, *lines, zones=("example.com",), workers=2, hosts=("127.0.0.1", "::1"), **how):
+        self.folder, self.room, self.port, self.how = tempfile.mkdtemp(dir=room), room, peers.free_port(), how
+        self.words = [f"{room}/ningkraetd", "-c", f"{self.folder}/conf"]
         os.mkdir(f"{self.folder}/zones")
         for origin in zones:
             self.write(origin)
         with open(f"{self.folder}/conf", "w", encoding="ascii") as it:
-            it.write(f"listen 127.0.0.1 {self.port}\nlisten ::1 {self.port}\nzones {self.folder}/zones\nworkers {workers}\ncontrol {self.folder}/control\n")
+            it.write("".join(f"listen {host} {self.port}\n" for host in hosts))
+            it.write(f"zones {self.folder}/zones\nworkers {workers}\ncontrol {self.folder}/control\n")
             it.write("".join(f"{line}\n" for line in lines).format(folder=self.folder, port=self.port))
 
     def write(self, origin, serial=1, last=80, more=""):
@@ -74,7 +75,7 @@ class Server:
 
     def __enter__(self):
         self.log = open(f"{self.folder}/log", "w+", encoding="utf-8")
-        self.process = subprocess.Popen([f"{self.room}/ningkraetd", "-c", f"{self.folder}/conf"], stderr=self.log, preexec_fn=self.before)
+        self.process = subprocess.Popen(self.words, stderr=self.log, **self.how)
         ends = time.monotonic() + 60
         while "serving " not in self.text() and time.monotonic() < ends:
             need(self.process.poll() is None, f"it ended: {self.text()}")
@@ -88,7 +89,11 @@ class Server:
     def __exit__(self, kind, *_):
         if self.process.poll() is None:
             self.process.send_signal(signal.SIGTERM)
-        status = self.process.wait(20)
+        try:
+            status = self.process.wait(20)
+        except subprocess.TimeoutExpired:
+            self.process.kill()
+            status = f"{self.process.wait()}, by force"
         self.log.close()
         need(kind or status == 0, f"it ended with {status}: {self.text()[-3000:]}")
 
@@ -259,7 +264,7 @@ def few_descriptors():
 
 
 def descriptors_run_out(room):
-    with Server(room, workers=2, before=few_descriptors) as server:
+    with Server(room, workers=2, preexec_fn=few_descriptors) as server:
         need(f"no more than {DESCRIPTORS} descriptors" in server.text(), server.text())
         streams = [server.tcp() for _ in range(2 * DESCRIPTORS)]
         time.sleep(0.5)
