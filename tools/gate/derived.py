@@ -19,7 +19,7 @@ import sources
 # The layers of the crates, the lowest first.
 LAYERS = {
     "names and data": ["zone_proto", "zone_sha1"],
-    "text and wire": ["message_reading", "message_writing", "message_hmac", "message_tsig", "message_notify", "message_cookies", "message_options", "ready_answers", "line_text", "zone_scanner", "key_files", "zone_tokens", "service_parameters", "record_fields",
+    "text and wire": ["message_reading", "message_writing", "message_hmac", "message_tsig", "message_notify", "message_cookies", "message_options", "ready_answers", "input_reads", "line_text", "zone_scanner", "key_files", "zone_tokens", "service_parameters", "record_fields",
                       "zone_file", "file_origins", "zone_file_writer"],
     "the zone": ["lookup_types", "zone_handler", "zone_map", "zone_signing", "zone_denial", "zone_verify", "zone_publication", "zone_builder", "zone_lookup", "zone_in_memory"],
     "signing": ["zone_keys", "zone_trimming", "zone_planning", "zone_keeping", "zone_planner", "zone_rollover"],

@@ -1,8 +1,7 @@
 //! The records of a zone file that is read from an input.
 ghost use Rattle.std.specs.Prelude.{◌≡◌, ◌≢◌, ◌<◌, List, ℕ, map, length, OnOk, IfOk, IfErr, Some};
 ghost use Rattle.std.specs.Bool.{OnFalse};
-ghost use Rattle.std.specs.Io.KnownBytes.{IsAtEnd, ReadConsumes};
-ghost use Rattle.std.specs.Io.{ReadsAtMost};
+ghost use Rattle.std.specs.Io.KnownBytes.{IsAtEnd};
 ghost use Rattle.zone_file.specs.Inputs.{GoesOn, with_rest};
 ghost use Rattle.zone_file.specs.Zones.{EndsIn, Read as RecordRead, zone_of};
 
@@ -10,6 +9,7 @@ use crate::error::{InputError, ZoneFault};
 use crate::placed::PlacedRecord;
 use crate::whole::{take_last, take_records};
 use crate::zone_reader::ZoneReader;
+use input_reads::read_some;
 use std::alloc::Global;
 use std::io::{ErrorKind, Read};
 use zone_proto::Name;
@@ -106,30 +106,13 @@ fn read_more<R: Read>(
         (text : List ℕ) → R.remaining input.old ≡ Some text →
         EndsIn f (with_rest records.old.items text reader.old)) }
 {
-    let count = read_some(input, chunk)?;
+    let count = match read_some(input, chunk) {
+        Ok(count) => count,
+        Err(error) => return Err(InputError::Input(error.kind())),
+    };
     if count == 0 {
         return Ok(false);
     }
     take_records(alloc, reader, records, &chunk[..count])?;
     Ok(true)
-}
-
-/// Reads once, and again where a signal came first.
-fn read_some<R: Read>(input: &mut R, buffer: &mut [u8]) -> Result<usize, InputError>
-    ensures bound { ReadsAtMost result buffer.new }
-    ensures bytes { ReadConsumes (R.remaining input.old) (R.remaining input.new) result buffer.new }
-    ensures err { IfErr result (λ e. (f : ZoneFault) → e ≢ InputError.Fault f) }
-{
-    for _ in 0..u64::MAX {
-        match input.read(buffer) {
-            Ok(count) => return Ok(count),
-            Err(e) => {
-                let kind = e.kind();
-                if kind != ErrorKind::Interrupted {
-                    return Err(InputError::Input(kind));
-                }
-            }
-        }
-    }
-    Err(InputError::Input(ErrorKind::Interrupted))
 }

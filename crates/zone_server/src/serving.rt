@@ -1,7 +1,5 @@
 //! Frames answered over any reader and writer (RFC 1035 section 4.2.2, RFC 7766).
 ghost use Rattle.std.specs.Prelude.{◌≡◌, ◌<◌, [], None, Ok, length, IfOk, OnOk};
-ghost use Rattle.std.specs.Io.KnownBytes.{ReadConsumes};
-ghost use Rattle.std.specs.Io.{ReadsAtMost};
 ghost use Rattle.message_reading.specs.Queries.{query_of, ReadsQuery};
 ghost use Rattle.zone_server.specs.Frames.{frame_of, framed_of};
 ghost use Rattle.zone_server.specs.Serving.{served_of, Answers, AnswersQuery, IsOneAnswer, Puts, Serves, TakesFrames};
@@ -12,6 +10,7 @@ use crate::server::Server;
 use crate::transfer_reply::asks_for_transfer;
 use crate::transfers::answer_transfer;
 use crate::waiting::{Stop, put_answer, write_out};
+use input_reads::read_some;
 use message_reading::{Query, ReadError, read_query};
 use std::alloc::Global;
 use std::io::{ErrorKind, Read, Write};
@@ -73,7 +72,10 @@ fn serve_in_chunks<S: Signer, H: Nsec3Hash, R: Read, W: Write>(
     let mut waiting = Vec::new(alloc);
     let mut answers = Vec::new(alloc);
     for _ in 0..u64::MAX {
-        let count = read_some(input, chunk)?;
+        let count = match read_some(input, chunk) {
+            Ok(count) => count,
+            Err(error) => return Err(Stop::Read(error.kind())),
+        };
         if count == 0 {
             return Ok(());
         }
@@ -193,23 +195,4 @@ fn answer_once<S: Signer, H: Nsec3Hash, W: Write>(
 {
     answer_read(alloc, server.zones, read, frame.transport, out)?;
     put_answer(out.as_slice(), answers, output)
-}
-
-/// Reads once, and again where a signal came first.
-fn read_some<R: Read>(input: &mut R, buffer: &mut [u8]) -> Result<usize, Stop>
-    ensures bound { ReadsAtMost result buffer.new }
-    ensures bytes { ReadConsumes (R.remaining input.old) (R.remaining input.new) result buffer.new }
-{
-    for _ in 0..u64::MAX {
-        match input.read(buffer) {
-            Ok(count) => return Ok(count),
-            Err(e) => {
-                let kind = e.kind();
-                if kind != ErrorKind::Interrupted {
-                    return Err(Stop::Read(kind));
-                }
-            }
-        }
-    }
-    Err(Stop::Read(ErrorKind::Interrupted))
 }

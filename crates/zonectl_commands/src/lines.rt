@@ -1,8 +1,7 @@
 //! The lines of an input, as they are read.
 ghost use Rattle.std.specs.Prelude.{◌≡◌, ◌≤◌, ◌<◌, ◌+◌, ◌↔◌, ◌≢◌, ℕ, List, [], ◌∷◌, ◌++◌, Some, None, vec_len, vec_capacity, length, IfOk, IfSome, IfNone, OnOk, OnErr, IsTrue, true, nat_le, if◌then◌else◌};
 ghost use Rattle.std.specs.Bool.{OnFalse, OnTrue};
-ghost use Rattle.std.specs.Io.KnownBytes.{Consumes, IsAtEnd, Keeps, ReadConsumes};
-ghost use Rattle.std.specs.Io.{ReadsAtMost};
+ghost use Rattle.std.specs.Io.KnownBytes.{Consumes, IsAtEnd, Keeps};
 ghost use Rattle.std.specs.List.{list_all};
 ghost use Rattle.std.specs.Str.Lines.{strip_carriage_return};
 ghost use Rattle.zonectl_commands.specs.Lines.{is_plain, plain};
@@ -10,10 +9,11 @@ ghost use Rattle.zonectl_commands.specs.InHand.{IsBegun};
 ghost use Rattle.zonectl_commands.specs.AnsweredLines.{answered_line};
 ghost use Rattle.zonectl_commands.specs.Kept.{begun_of, kept_if, IsCut};
 
+use input_reads::read_some;
 use memchr::memchr;
 use std::alloc::{AllocError, Global};
 use std::io;
-use std::io::{ErrorKind, Read};
+use std::io::Read;
 use std::marker::Model;
 
 /// The longest line in octets, without its end.
@@ -224,22 +224,4 @@ fn has_plain_octets(line: &[u8]) -> bool
     ensures { result ≡ list_all (λ octet. nat_le octet 126) line.now }
 {
     line.iter().all(|octet| *octet <= 126)
-}
-
-/// Reads once, and again where a signal came first.
-fn read_some<R: Read>(input: &mut R, buf: &mut [u8]) -> io::Result<usize>
-    ensures bound { ReadsAtMost result buf.new }
-    ensures bytes { ReadConsumes (R.remaining input.old) (R.remaining input.new) result buf.new }
-{
-    for _ in 0..u64::MAX {
-        match input.read(buf) {
-            Ok(count) => return Ok(count),
-            Err(e) => {
-                if e.kind() != ErrorKind::Interrupted {
-                    return Err(e);
-                }
-            }
-        }
-    }
-    Err(io::Error::from(ErrorKind::Interrupted))
 }
