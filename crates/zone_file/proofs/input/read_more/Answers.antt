@@ -11,6 +11,6 @@ pub returns-in_err-take_records-clause-fault : goal.returns-in_err-take_records-
 returns-in_err-take_records-clause-fault g c =
     let quoted_word : (f : ZoneFault) → input_error_of c.in_err-take_records.field-0.0 ≡ inputs.Fault f → (text : List ℕ) → g.R.Read.remaining c.args.input.now ≡ Some text
     → EndsIn f (with_rest c.args.records.now.items text c.args.reader.now) =
-    λ f e. ends_within (g.R.Read.remaining c.args.input.now) (g.R.Read.remaining c.read_some.new.input) c.args.records.now.items c.args.reader.now (take c.in_ok-count.count c.read_some.new.buffer)
-    c.in_err-take_records.field-0.0 f c.in_ok-count.ensures.bytes.0 c.in_err-take_records.ensures.fault e in
+    λ f e. ends_within (g.R.Read.remaining c.args.input.now) (g.R.Read.remaining c.read_some.new.input) c.args.records.now.items c.args.reader.now (take c.in-Ok.count c.read_some.new.buffer)
+    c.in_err-take_records.field-0.0 f c.in-Ok.ensures.bytes.0 c.in_err-take_records.ensures.fault e in
     first_of (search rules, search (rules, quoted_word), grind (arith, quoted_word))
