@@ -30,20 +30,23 @@
  *
  *    Each thread that answers has an nk_zones of its own, which nk_zones_copy makes from a loaded one: no zone is read or stored twice, and
  *    no answer waits for another thread. To reload zones while queries are being answered, one thread loads them into a copy and puts that
- *    in place of the nk_zones from which all others are copied; each other thread then copies it over its own. The shared nk_zones is used
- *    under a lock, since a copy too needs both exclusively; the lock isn't held while a zone is read:
+ *    in place of the nk_zones from which all others are copied; each other thread then copies that, and puts it in place of its own. The shared
+ *    nk_zones is used under a lock, since a copy too needs both exclusively; the lock isn't held while a zone is read, nor while one is freed:
  *
- *        the thread that loads                          each thread that answers, between two queries
+ *        the thread that loads                                      each thread that answers, between two queries
  *
- *        nk_zones fresh = NK_ZONES_NONE, old;
- *        lock();                                        if (seen != renewed) {                          an atomic number
- *        nk_zones_copy(&loaded, &fresh);                    lock();
- *        unlock();                                          if (nk_zones_copy(&loaded, &own) == NK_DONE) seen = renewed;
- *        nk_zones_load(&fresh, ..);                         unlock();
- *        lock();                                        }
- *        old = loaded, loaded = fresh, renewed++;       nk_zones_answer(&own, ..);
- *        unlock();
- *        nk_zones_free(&old);
+ *        nk_zones fresh = NK_ZONES_NONE, old;                       nk_zones fresh = NK_ZONES_NONE;
+ *        lock();                                                    if (seen != renewed) {                   an atomic number
+ *        code = nk_zones_copy(&loaded, &fresh);                         lock();
+ *        unlock();                                                      now = renewed;
+ *        if (code == NK_DONE)                                           code = nk_zones_copy(&loaded, &fresh);
+ *            code = nk_zones_load(&fresh, ..);                          unlock();
+ *        if (code == NK_DONE) {                                         if (code == NK_DONE)
+ *            lock();                                                        nk_zones_free(&own), own = fresh, seen = now;
+ *            old = loaded, loaded = fresh, fresh = old, renewed++;  }
+ *            unlock();                                              nk_zones_answer(&own, ..);
+ *        }
+ *        nk_zones_free(&fresh);
  *
  *    A zone that was dropped or replaced is freed with the last nk_zones that has it, by the thread whose call that is. It is proved that an
  *    nk_zones may move to another thread with what it shares; that a program locks as above isn't proved, and nothing checks it.
@@ -79,14 +82,16 @@ enum {
     NK_BAD_TRANSPORT = 9  /* the transport is neither NK_UDP nor NK_TCP */
 };
 
-/* How a query came. */
+/* How a query came; and how many octets a response has at most over each. */
 enum { NK_UDP = 0, NK_TCP = 1 };
+enum { NK_UDP_OCTETS = 1232, NK_TCP_OCTETS = 65535 };
 
 /* Zones, or none. */
 typedef struct nk_zones {
     void *kept;
 } nk_zones;
 
+/* What initializes one, to no zones; as a value, (nk_zones)NK_ZONES_NONE. */
 #define NK_ZONES_NONE {0}
 
 /* The interface version of the linked library, to compare with NK_INTERFACE. */

@@ -53,8 +53,8 @@ class System:
         return ran(["chroot", self.folder, *words], is_well, env={"PATH": "/usr/sbin:/usr/bin:/sbin:/bin", "LC_ALL": "C"})
 
     def install(self, package):
-        shutil.copyfile(package, f"{self.folder}/tmp/package.deb")
-        return self.run("dpkg", "-i", "/tmp/package.deb")
+        shutil.copyfile(package, f"{self.folder}/root/package.deb")
+        return self.run("dpkg", "-i", "/root/package.deb")
 
     def has(self, path):
         return os.path.lexists(self.folder + path)
@@ -86,7 +86,7 @@ def address(message):
 @contextlib.contextmanager
 def served(system, *before):
     """The server of the package, in the system."""
-    log = open(f"{system.folder}/tmp/log", "w+", encoding="utf-8")
+    log = open(f"{system.folder}/root/log", "w+", encoding="utf-8")
     process = subprocess.Popen([*before, "chroot", system.folder, "/usr/sbin/ningkraetd"], stderr=log)
     try:
         ends = time.monotonic() + 20
@@ -157,7 +157,7 @@ def tried(system, package):
         system.write("/etc/ningkraet/zones/example.com.zone", ZONE.format(serial=2))
         # (what the start itself does as root, systemd does in its place)
         system.write("/etc/ningkraet/ningkraetd.conf", CONF.format(port=port).replace("user ningkraet\n", ""))
-        with served(system, "strace", "-f", "-qq", "-o", f"{system.folder}/tmp/calls"):
+        with served(system, "strace", "-f", "-qq", "-o", f"{system.folder}/root/calls"):
             need(by_udp(port) == by_tcp(port) == ["192.0.2.2"], "an answer under strace")
             system.run("ningkraetctl", "reload")
         system.write("/etc/ningkraet/ningkraetd.conf", CONF.format(port=port))
@@ -171,7 +171,7 @@ def tried(system, package):
                     allowed.add(word)
 
         take("@system-service")
-        with open(f"{system.folder}/tmp/calls", encoding="utf-8", errors="replace") as it:
+        with open(f"{system.folder}/root/calls", encoding="utf-8", errors="replace") as it:
             # (those of chroot, before it becomes the server, aren't its)
             text = it.read().partition('execve("/usr/sbin/ningkraetd"')[2]
         beyond = set(re.findall(r"^\d+ +(\w+)\(", text, re.M)) - allowed
