@@ -1,5 +1,5 @@
 -- What a query asks by its options
-use Rattle.std.specs.Prelude.{ℕ, ◌+◌, ◌-◌, Bool, true, false, List, [], ◌∷◌, length, max, min, Option, Some, None}
+use Rattle.std.specs.Prelude.{ℕ, ◌+◌, ◌-◌, Bool, false, List, [], ◌∷◌, length, max, min, Option, Some, None}
 use Rattle.message_cookies.specs.Cookies.{checked_cookie}
 use Rattle.message_cookies.specs.declared.checking.CheckedCookie.{CheckedCookie}
 use Rattle.message_cookies.specs.declared.checking.CheckedCookie.TheVariants as checked
@@ -31,9 +31,11 @@ abbrev pub state_of : Option (CookieSecrets × List ℕ) → Arrival → CookieS
 state_of None a = Absent
 state_of (Some cookie) a = state_by (checked_cookie cookie.0 cookie.1 a.address.now a.moment)
 
-abbrev pub is_known : CookieState → Bool
-is_known Known = true
-is_known _ = false
+-- whether a client is sent back for the cookie that it gets, by a server that requires cookies (RFC 7873 sections 5.2.3 and 5.2.4): over TCP
+-- its address is known to be its own
+abbrev pub comes_again : Bool → Transport → CookieState → Bool
+comes_again required (transports.Udp limit) Unknown = required
+comes_again required t state = false
 
 -- ---- the identifier
 

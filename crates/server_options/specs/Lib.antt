@@ -1,4 +1,5 @@
 pub mod Asking
+pub mod BadCookies
 pub mod Completing
 pub mod ServerAnswers
 pub mod Summaries

@@ -1,10 +1,11 @@
 -- What an answer was
-use Rattle.std.specs.Prelude.{ℕ, ◌+◌, ◌*◌, ◌/◌, ◌==◌, ◌&&◌, not, Bool, List, length, nat_lt, Option, Some, None, if◌then◌else◌}
+use Rattle.std.specs.Prelude.{ℕ, ◌+◌, ◌*◌, ◌/◌, ◌==◌, ◌&&◌, not, List, length, nat_lt, Option, Some, None, if◌then◌else◌}
 use Rattle.message_options.specs.Options.{opt_of}
 use Rattle.message_reading.specs.Headers.{header_of}
 use Rattle.message_reading.specs.Octets.{◌>>=◌}
 use Rattle.message_reading.specs.declared.header.Header.{Header}
 use Rattle.message_reading.specs.declared.record_frame.RecordFrame.{RecordFrame}
+use Rattle.server_options.specs.declared.asking.CookieState.{CookieState}
 use Rattle.server_options.specs.declared.summary.ResponseKind.{ResponseKind}
 use Rattle.server_options.specs.declared.summary.ResponseKind.TheVariants.{Answer, Failed, NameError, NoData, Other, Referral, Refused, Truncated}
 use Rattle.server_options.specs.declared.summary.Summary.{Summary}
@@ -27,12 +28,12 @@ kind_by header code =
     else if nat_lt 0 header.authorities && not header.authoritative then Referral
     else NoData
 
--- what a response was, to a client that is known or isn't; none without a header
-abbrev pub summary_of : Bool → List ℕ → Option Summary
-summary_of known octets = header_of octets >>= λ h. Some (record {
+-- what a response was, to a query that told this by a cookie; none without a header
+abbrev pub summary_of : CookieState → List ℕ → Option Summary
+summary_of cookie octets = header_of octets >>= λ h. Some (record {
   code = code_with h.0 (opt_of octets);
   kind = kind_by h.0 (code_with h.0 (opt_of octets));
   size = length octets;
   truncated = h.0.truncated;
-  is_known = known;
+  cookie = cookie;
 })

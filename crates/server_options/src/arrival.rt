@@ -23,4 +23,7 @@ pub struct ServerOptions<'a> {
     pub nsid: &'a [u8],
     /// The secrets by which cookies are made; without them, COOKIE options are passed over (RFC 7873 section 5.2.1).
     pub secrets: Option<CookieSecrets>,
+    /// Whether a query over UDP that has a COOKIE option without a valid server cookie gets that and no answer, by BADCOOKIE (RFC 7873
+    /// sections 5.2.3 and 5.2.4).
+    pub cookies_required: bool,
 }

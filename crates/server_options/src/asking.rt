@@ -1,6 +1,6 @@
 //! What a query asks by its options.
 ghost use Rattle.std.specs.Prelude.{◌≡◌, ◌≤◌, ◌+◌, ◌-◌, Some, length, max, option_map};
-ghost use Rattle.server_options.specs.Asking.{cookie_in, header_alone, is_known, limit_by, lowered, nsid_in, reserved, reserved_for_cookie};
+ghost use Rattle.server_options.specs.Asking.{comes_again, cookie_in, header_alone, limit_by, lowered, nsid_in, reserved, reserved_for_cookie};
 ghost use Rattle.server_options.specs.Asking.{reserved_for_nsid, state_by, state_of};
 
 use crate::arrival::Arrival;
@@ -27,7 +27,7 @@ pub enum CookieState {
     Malformed,
     /// The client isn't known: it has no server cookie, or one that isn't valid.
     Unknown,
-    /// The client is known: it gets what is sent to its address.
+    /// The client is known: it has a server cookie that is valid, and gets what is sent to its address (RFC 7873 section 5.2.5).
     Known,
 }
 
@@ -75,13 +75,13 @@ fn state_by(found: CheckedCookie) -> CookieState
     }
 }
 
-/// Whether the client is known.
-pub(crate) fn is_known(state: CookieState) -> bool
-    ensures { result ≡ is_known state }
+/// Whether a client is sent back for the cookie that it gets.
+pub(crate) fn comes_again(required: bool, transport: Transport, state: CookieState) -> bool
+    ensures { result ≡ comes_again required transport state }
 {
-    match state {
-        CookieState::Known => true,
-        CookieState::Absent | CookieState::Malformed | CookieState::Unknown => false,
+    match (transport, state) {
+        (Transport::Udp { .. }, CookieState::Unknown) => required,
+        _ => false,
     }
 }
 

@@ -5,9 +5,13 @@
 mod answering;
 mod arrival;
 mod asking;
+mod bad_cookies;
 mod completing;
+mod responder;
 mod summary;
 
 pub use answering::answer_arrival;
 pub use arrival::{Arrival, ServerOptions};
+pub use asking::CookieState;
+pub use responder::{FromZones, Responder};
 pub use summary::{ResponseKind, Summary, summary_of};

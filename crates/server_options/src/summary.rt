@@ -3,6 +3,7 @@ ghost use Rattle.std.specs.Prelude.{◌≡◌, ◌+◌, ◌*◌, ◌/◌};
 ghost use Rattle.message_options.specs.Options.{opt_of};
 ghost use Rattle.server_options.specs.Summaries.{code_with, kind_by, summary_of};
 
+use crate::asking::CookieState;
 use message_options::opt_of;
 use message_reading::{Header, RecordFrame, read_header};
 
@@ -38,13 +39,13 @@ pub struct Summary {
     pub size: usize,
     /// TC.
     pub truncated: bool,
-    /// Whether the client has a valid cookie: a response to it doesn't go to whom it isn't for (RFC 7873 section 5.2.5).
-    pub is_known: bool,
+    /// What the query told by a cookie.
+    pub cookie: CookieState,
 }
 
-/// What a response was, to a client that is known or isn't; none for fewer octets than a header has. Doesn't allocate.
-pub fn summary_of(is_known: bool, octets: &[u8]) -> Option<Summary>
-    ensures { result ≡ summary_of is_known octets.now }
+/// What a response was, to a query that told this by a cookie; none for fewer octets than a header has. Doesn't allocate.
+pub fn summary_of(cookie: CookieState, octets: &[u8]) -> Option<Summary>
+    ensures { result ≡ summary_of cookie octets.now }
 {
     let (header, _) = read_header(octets)?;
     let code = code_in(header, octets);
@@ -53,7 +54,7 @@ pub fn summary_of(is_known: bool, octets: &[u8]) -> Option<Summary>
         kind: kind_by(header, code),
         size: octets.len(),
         truncated: header.truncated,
-        is_known,
+        cookie,
     })
 }
 
