@@ -1,5 +1,5 @@
 #!/usr/bin/env python3
-"""Signs a zone file with the keys in a folder, as dnssec-keygen makes them (K*.key and K*.private).
+"""Signs a zone file with the keys in a folder: K*.key and K*.private of dnssec-keygen, or a KASP database of Knot's keymgr.
 
   ./sign ZONE --keys FOLDER [-o FILE]                  writes the signed zone
   ./sign plan ZONE --keys FOLDER -o PLAN               writes what has to be signed; the public halves of the keys are enough
@@ -28,10 +28,8 @@ private keys; Debian's python3-cryptography signs, with algorithms 8, 10, 13, 14
 NSEC3 and NSEC3PARAM records in the file are replaced.
 """
 import argparse
-import base64
 import calendar
 import concurrent.futures
-import glob
 import os
 import struct
 import subprocess
@@ -42,6 +40,7 @@ import time
 sys.dont_write_bytecode = True
 
 import running
+from signing_keys import fail, names, public_of, publics, signers, tag_of, verifier_of
 
 DAY = 86400
 
@@ -50,11 +49,6 @@ END = (0, 0)
 
 # How often signatures that would stay are verified, where some of them turn out to be wrong.
 MOST_ROUNDS = 5
-
-
-def fail(why):
-    running.say("sign", why)
-    sys.exit(2)
 
 
 def moment(word):
@@ -89,136 +83,6 @@ def options(words):
     shape.add_argument("--signatures")
     shape.add_argument("-o", dest="output")
     return shape.parse_args(words)
-
-
-# ---- keys
-
-
-def library():
-    """The parts of python3-cryptography that sign and verify."""
-    try:
-        from cryptography.exceptions import InvalidSignature
-        from cryptography.hazmat.primitives import hashes
-        from cryptography.hazmat.primitives.asymmetric import ec, ed448, ed25519, padding, rsa, utils
-    except ImportError:
-        fail("python3-cryptography, which signs, isn't installed")
-    return argparse.Namespace(hashes=hashes, ec=ec, ed448=ed448, ed25519=ed25519, padding=padding, rsa=rsa, utils=utils, InvalidSignature=InvalidSignature)
-
-
-def curve_of(it, algorithm):
-    """The curve of ECDSA keys, how long a number is, and the hash (RFC 6605 section 4)."""
-    return (it.ec.SECP256R1(), 32, it.hashes.SHA256()) if algorithm == 13 else (it.ec.SECP384R1(), 48, it.hashes.SHA384())
-
-
-def hash_of(it, algorithm):
-    """The hash of RSA signatures (RFC 5702)."""
-    return it.hashes.SHA256() if algorithm == 8 else it.hashes.SHA512()
-
-
-def private_of(path):
-    """The fields of a private key file."""
-    try:
-        with open(path, encoding="ascii") as it:
-            return dict(line.rstrip("\n").split(": ", 1) for line in it if ": " in line)
-    except (OSError, ValueError) as error:
-        fail(f"{path}: {error}")
-
-
-def signer_of(path):
-    """A function that signs octets with the private key in a file."""
-    it = library()
-    fields = private_of(path)
-    octets = lambda name: base64.b64decode(fields[name])
-    number = lambda name: int.from_bytes(octets(name), "big")
-    try:
-        algorithm = int(fields["Algorithm"].split()[0])
-        if algorithm == 15:
-            return it.ed25519.Ed25519PrivateKey.from_private_bytes(octets("PrivateKey")).sign
-        if algorithm == 16:
-            return it.ed448.Ed448PrivateKey.from_private_bytes(octets("PrivateKey")).sign
-        if algorithm in (13, 14):
-            curve, length, hashed = curve_of(it, algorithm)
-            key, how = it.ec.derive_private_key(number("PrivateKey"), curve), it.ec.ECDSA(hashed)
-
-            def sign(what):
-                # The two numbers, one after the other (RFC 6605 section 4).
-                return b"".join(part.to_bytes(length, "big") for part in it.utils.decode_dss_signature(key.sign(what, how)))
-
-            return sign
-        if algorithm in (8, 10):
-            public = it.rsa.RSAPublicNumbers(number("PublicExponent"), number("Modulus"))
-            parts = [number(name) for name in ("Prime1", "Prime2", "PrivateExponent", "Exponent1", "Exponent2", "Coefficient")]
-            key, hashed = it.rsa.RSAPrivateNumbers(*parts, public).private_key(), hash_of(it, algorithm)
-            return lambda what: key.sign(what, it.padding.PKCS1v15(), hashed)
-    except (KeyError, ValueError) as error:
-        fail(f"{path}: not a private key: {error}")
-    fail(f"{path}: algorithm {algorithm} isn't supported")
-
-
-def rsa_numbers(it, octets):
-    """The numbers of a public RSA key (RFC 3110 section 2)."""
-    start, length = (1, octets[0]) if octets[0] else (3, int.from_bytes(octets[1:3], "big"))
-    exponent, modulus = octets[start : start + length], octets[start + length :]
-    return it.rsa.RSAPublicNumbers(int.from_bytes(exponent, "big"), int.from_bytes(modulus, "big"))
-
-
-def public_of(path):
-    """The data of the DNSKEY record in a public key file."""
-    try:
-        with open(path, encoding="ascii") as it:
-            words = [word for line in it for word in line.split(";")[0].split()]
-        flags, protocol, algorithm, *key = words[words.index("DNSKEY") + 1 :]
-        return struct.pack("!HBB", int(flags), int(protocol), int(algorithm)) + base64.b64decode("".join(key))
-    except (OSError, ValueError, struct.error) as error:
-        fail(f"{path}: not a public key: {error}")
-
-
-def tag_of(data):
-    """The tag of a key (RFC 4034 appendix B)."""
-    total = sum(octet if place % 2 else octet << 8 for place, octet in enumerate(data))
-    return (total + (total >> 16)) & 0xFFFF
-
-
-def verifier_of(data):
-    """A function that says whether a signature of octets is valid by the key with these DNSKEY data."""
-    it, algorithm, key = library(), data[3], data[4:]
-
-    def verify(what, signature):
-        try:
-            if algorithm in (15, 16):
-                kind = it.ed25519.Ed25519PublicKey if algorithm == 15 else it.ed448.Ed448PublicKey
-                kind.from_public_bytes(key).verify(signature, what)
-            elif algorithm in (13, 14):
-                curve, length, hashed = curve_of(it, algorithm)
-                number = lambda octets: int.from_bytes(octets, "big")
-                public = it.ec.EllipticCurvePublicNumbers(number(key[:length]), number(key[length:]), curve).public_key()
-                public.verify(it.utils.encode_dss_signature(number(signature[:length]), number(signature[length:])), what, it.ec.ECDSA(hashed))
-            elif algorithm in (8, 10):
-                rsa_numbers(it, key).public_key().verify(signature, what, it.padding.PKCS1v15(), hash_of(it, algorithm))
-            else:
-                return False
-        except (it.InvalidSignature, ValueError, IndexError):
-            return False
-        return True
-
-    return verify
-
-
-def publics(it):
-    """The files of the public halves of the keys, in the order in which frames number them: only those of the origin, if it is given."""
-    stem = f"{it.origin.lower().rstrip('.')}.+" if it.origin else ""
-    found = sorted(glob.glob(f"{glob.escape(f'{it.keys}/K{stem}')}*.key"))
-    return found or fail(f"{it.keys}: no key found, K{stem}*.key")
-
-
-def names(it):
-    """The names of these files, without the folder and the extension."""
-    return [os.path.basename(path).removesuffix(".key") for path in publics(it)]
-
-
-def signers(folder, keys):
-    """For each of the keys with these names, a function that signs with it."""
-    return [signer_of(f"{folder}/{name}.private") for name in keys]
 
 
 # ---- frames and signatures
@@ -313,7 +177,7 @@ def call(mode, it):
     words += ["--cds"] if it.cds else []
     words += ["--old", it.old or it.zone, "--again", str(it.again)] if it.again is not None else []
     words += ["--wrong", it.wrong.name] if it.again is not None and it.wrong else []
-    for path in publics(it):
+    for path in publics(it.keys, it.origin):
         words += ["--key", path]
     return words
 
@@ -341,7 +205,7 @@ def standing_in(it):
 def only_valid(it):
     """Verifies the signatures that would stay, so that only valid ones do."""
     keys = {}
-    for data in map(public_of, publics(it)):
+    for data in map(public_of, publics(it.keys, it.origin)):
         keys.setdefault((data[3], tag_of(data)), []).append(verifier_of(data))
     # The algorithm and the tag of the key are in what is signed (RFC 4034 section 3.1).
     is_valid = lambda one: any(verify(*one) for verify in keys.get((one[0][2], int.from_bytes(one[0][16:18], "big")), []))
@@ -388,7 +252,7 @@ def signed(it, answer):
 
 def plan_head(it):
     """The head of a plan: its validity period, and the names of its keys, in the order in which frames number them."""
-    keys = [name.encode() for name in names(it)]
+    keys = [name.encode() for name in names(publics(it.keys, it.origin))]
     return struct.pack("!QQH", it.start, it.end, len(keys)) + b"".join(bytes([len(name)]) + name for name in keys)
 
 
@@ -427,7 +291,7 @@ def finish(it):
         only_valid(it)
 
     def kept(asked):
-        if asked != planned or keys != names(it):
+        if asked != planned or keys != names(publics(it.keys, it.origin)):
             fail("the zone, the keys or the options aren't those of the plan")
         with open(it.signatures, "rb") as stream:
             return stream.read()
@@ -450,7 +314,7 @@ def main(words):
         return {"plan": plan, "answer": answer, "finish": finish}[mode](it)
     if it.ds:
         return passed_on("ds", it)
-    keys = signers(it.keys, names(it))
+    keys = signers(it.keys, names(publics(it.keys, it.origin)))
     if it.again is not None:
         only_valid(it)
     return signed(it, lambda asked: answers(keys, asked))
