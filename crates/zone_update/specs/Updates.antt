@@ -1,11 +1,11 @@
 -- An update of a zone (RFC 2136 section 3): the sets after it, or why it is refused
-use Rattle.std.specs.Prelude.{ℕ, Bool, false, ◌==◌, ◌&&◌, ◌||◌, if◌then◌else◌, List, [], ◌∷◌, Option, Some, option_and_then, option_map, is_some, unwrap_or, Result, Ok}
+use Rattle.std.specs.Prelude.{◌≡◌, ℕ, Bool, true, false, ◌==◌, ◌&&◌, ◌||◌, if◌then◌else◌, List, [], ◌∷◌, Option, Some, None, option_and_then, option_map, is_some, unwrap_or, Result, Ok, Err}
 use Rattle.zone_proto.specs.Names.{Name}
 use Rattle.zone_proto.specs.Sets.{RRset, first_serial}
 use Rattle.zone_proto.specs.Stepping.{stepped}
 use Rattle.zone_proto.specs.Types.{SOA}
 use Rattle.zone_map.specs.Zones.{Sets, set_at, put}
-use Rattle.zone_update.specs.Entries.{◌>>=◌}
+use Rattle.zone_update.specs.Entries.{◌>>=◌, IsRefusal}
 use Rattle.zone_update.specs.Demands.{met}
 use Rattle.zone_update.specs.Changes.{changes_of}
 use Rattle.zone_update.specs.Processing.{processed}
@@ -55,3 +55,16 @@ updated origin m prerequisites changes =
     met origin m prerequisites >>= λ _.
     changes_of origin changes >>= λ cs.
     Ok (finished origin m (run origin (serial_before origin m) (record { sets = m; changed = false }) cs))
+
+-- the same before the serial goes on by itself: the sets once all changes are made, and whether they were changed
+abbrev pub course_of : Name → Sets → List Entry → List Entry → Result Course Refusal
+course_of origin m prerequisites changes =
+    met origin m prerequisites >>= λ _.
+    changes_of origin changes >>= λ cs.
+    Ok (run origin (serial_before origin m) (record { sets = m; changed = false }) cs)
+
+-- a call gives the sets that are changed, or none where none are; or it refuses as is defined, unless memory ran out
+abbrev pub GivesChanged : Result (Option Sets) Refusal → Result Course Refusal → Type 0
+GivesChanged (Ok (Some after)) made = made ≡ Ok (record { sets = after; changed = true })
+GivesChanged (Ok None) made = (s : Sets) × (made ≡ Ok (record { sets = s; changed = false }))
+GivesChanged (Err e) made = IsRefusal e made

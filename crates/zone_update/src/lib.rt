@@ -19,5 +19,7 @@ mod updating;
 pub use change::Change;
 pub use demand::Demand;
 pub use entry::{Content, Entry, Update};
+pub use names::types_at;
+pub use processing::goes;
 pub use refusal::Refusal;
-pub use updating::updated;
+pub use updating::{changed_sets, updated};

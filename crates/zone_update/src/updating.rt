@@ -1,8 +1,10 @@
 //! An update of a zone (RFC 2136 section 3).
-ghost use Rattle.std.specs.Prelude.{◌≡◌, false, IfOk, IsOkUnless};
+ghost use Rattle.std.specs.Prelude.{◌≡◌, true, false, IfOk, IfSome, IsOkUnless};
+ghost use Rattle.std.specs.Option.{IfNone};
+ghost use Rattle.zone_map.specs.Zones.{Sets};
 ghost use Rattle.zone_update.specs.Entries.{Gives, listed};
 ghost use Rattle.zone_update.specs.Changes.{changes_of};
-ghost use Rattle.zone_update.specs.Updates.{finished, run, serial_before, updated};
+ghost use Rattle.zone_update.specs.Updates.{course_of, finished, run, serial_before, updated, GivesChanged};
 
 use crate::change::{Change, change_of};
 use crate::entry::{Entry, Update};
@@ -55,6 +57,38 @@ pub fn updated(
     }
 }
 
+/// The sets of the zone of an origin once the changes of an update are made, with the serial that they leave: as [`updated`] makes them, but
+/// that the serial doesn't go on by itself. None where nothing changes. So who signs the zone anew, with the next serial, begins.
+///
+/// # Errors
+///
+/// Those of [`updated`].
+pub fn changed_sets(
+    alloc: Global,
+    origin: &LowerName,
+    zone: &RecordMap,
+    update: Update,
+) -> Result<Option<RecordMap>, Refusal>
+    ensures { GivesChanged result
+        (course_of origin.now zone.now update.prerequisites.items update.changes.items) }
+{
+    let Update {
+        prerequisites,
+        changes,
+    } = update;
+    if let Err(refusal) = meet(alloc, origin, zone.as_map(), prerequisites) {
+        return Err(refusal);
+    }
+    let changes = match changes_of(alloc, origin, changes) {
+        Ok(changes) => changes,
+        Err(refusal) => return Err(refusal),
+    };
+    match run_beside(alloc, origin, zone, changes) {
+        Ok(after) => Ok(after),
+        Err(_) => Err(Refusal::Memory),
+    }
+}
+
 /// What all records of the update section ask for, or the first refusal.
 fn changes_of(
     alloc: Global,
@@ -94,6 +128,33 @@ fn changed(
         step_serial(&mut records, apex)?;
     }
     Ok(records)
+}
+
+/// The sets with all changes made, beside those of the zone; none where nothing changes.
+fn run_beside(
+    alloc: Global,
+    origin: &LowerName,
+    zone: &RecordMap,
+    changes: Vec<Change>,
+) -> Result<Option<RecordMap>, ProtoError>
+    ensures some { IfOk result (λ found. IfSome found (λ after.
+        run origin.now (serial_before origin.now zone.now)
+        (record { sets = zone.now; changed = false }) changes.items
+        ≡ record { sets = after; changed = true })) }
+    ensures none { IfOk result (λ found. IfNone found
+        ((s : Sets)
+        × (run origin.now (serial_before origin.now zone.now)
+        (record { sets = zone.now; changed = false }) changes.items
+        ≡ record { sets = s; changed = false }))) }
+    ensures err { IsOkUnless result ProtoError.Memory }
+{
+    let apex = RrKey::new(origin.clone()?, RecordType::SOA);
+    let serial = zone_serial(zone.as_map(), &apex).unwrap_or(0);
+    let mut records = copied(alloc, zone)?;
+    if run(alloc, &mut records, origin, serial, changes)? {
+        return Ok(Some(records));
+    }
+    Ok(None)
 }
 
 /// Makes the changes in order, and tells whether they changed anything. Where it is refused, by `Memory`, some are made.
