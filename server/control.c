@@ -41,8 +41,7 @@ static int read_line(int fd, char *line) {
         ssize_t more = read(fd, line + have, COMMAND - 1 - have);
         if (more <= 0) return 0;
         have += more;
-        line[have] = 0;
-        char *end = strchr(line, '\n');
+        char *end = memchr(line, '\n', have);
         if (!end) continue;
         *end = 0;
         return 1;

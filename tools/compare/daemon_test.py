@@ -83,7 +83,7 @@ class Server:
         return self
 
     def text(self):
-        with open(f"{self.folder}/log", encoding="utf-8") as it:
+        with open(f"{self.folder}/log", encoding="utf-8", errors="replace") as it:
             return it.read()
 
     def __exit__(self, kind, *_):
