@@ -1,0 +1,9 @@
+pub mod Transfers
+pub mod Gathering
+pub mod Advancing
+pub mod Messages
+pub mod Grants
+pub mod Seals
+pub mod Sending
+pub mod Opening
+pub mod Beginning
