@@ -1,1 +1,2 @@
+pub mod OptionsBack
 pub mod ProvedAnswers

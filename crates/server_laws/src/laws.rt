@@ -1,7 +1,8 @@
 //! Laws of the answers to messages. Each is an empty function whose contract is the law, so a program has no need to call one.
 //!
-//! They are of queries with DNSSEC for names that a zone answers which denies by NSEC or by NSEC3, as `response_laws` has it, and of
-//! answers that weren't cut: where TC is set, nothing is promised of what was left.
+//! Those of what an answer proves are of queries with DNSSEC for names that a zone answers which denies by NSEC or by NSEC3, as
+//! `response_laws` has it, and of answers that weren't cut: where TC is set, nothing is promised of what was left.
+ghost use Rattle.server_laws.specs.OptionsBack.{OptionsReadBack};
 ghost use Rattle.server_laws.specs.ProvedAnswers.{AnswerProvesByHashes, AnswerProvesWhatItSays, OneZoneAnswers};
 
 /// For each name and type, one zone of a server answers, or none does.
@@ -21,4 +22,10 @@ pub fn answers_prove_what_they_say()
 /// records in the authority section of the message (`ProvesByHashes` of `response_laws`).
 pub fn hashed_answers_prove_what_they_say()
     ensures { AnswerProvesByHashes }
+{}
+
+/// A response to a query with an OPT record reads back, once options are put into the OPT record with which it ends, as the same
+/// message, with these options in that record.
+pub fn options_read_back()
+    ensures { OptionsReadBack }
 {}
