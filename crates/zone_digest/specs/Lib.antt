@@ -1,0 +1,4 @@
+pub mod ZoneText
+pub mod ZoneDigests
+pub mod DigestSets
+pub mod Faults
