@@ -1,3 +1,4 @@
 pub mod NameFaults
 pub mod PairFacts
+pub mod ParameterFacts
 pub mod RowFacts

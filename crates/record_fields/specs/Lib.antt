@@ -1,5 +1,6 @@
 pub mod Fields
 pub mod Hosts
+pub mod Parameters
 pub mod Parts
 pub mod Readings
 pub mod Rows

@@ -15,6 +15,7 @@ use Rattle.record_fields.specs.declared.table.TheConstants.{ROWS}
 use Rattle.record_fields.specs.Readings.{◌>>=◌}
 use Rattle.record_fields.specs.Fields.{Left, Reading, next, next_algorithm, next_u8, next_u16, next_u32}
 use Rattle.record_fields.specs.Hosts.{next_gateway, next_identity, next_relay}
+use Rattle.record_fields.specs.Parameters.{next_parameters}
 use Rattle.record_fields.specs.Parts.{as_octets, octet, short, long, next_certificate_type, next_digest_type, next_eui48, next_eui64, next_groups, next_name_octets, next_tag}
 use Rattle.record_fields.specs.Texts.{next_base64, next_base64_if_there, next_hex, next_names, next_octets, next_string, next_string_if_there, next_strings}
 
@@ -61,6 +62,7 @@ next_ending origin E.Hex l = next_hex l
 next_ending origin E.Base64 l = next_base64 l
 next_ending origin E.Base64IfThere l = next_base64_if_there l
 next_ending origin E.Names l = next_names origin l
+next_ending origin E.Parameters l = next_parameters l
 
 -- these octets, and then those that are read
 abbrev pub behind : List ℕ → Reading (List ℕ) → Reading (List ℕ)

@@ -1,6 +1,7 @@
 //! What is wrong with a zone file, and where.
 ghost use Rattle.std.specs.Prelude.{◌≡◌};
 
+use service_parameters::ParameterFault;
 use std::alloc::{AllocError, AllocFailed};
 use thiserror::Error;
 use zone_proto::ProtoError;
@@ -129,6 +130,9 @@ pub enum Reason {
     /// A word that is no moment.
     #[error("a moment is needed here, as YYYYMMDDHHmmSS or in seconds")]
     Moment,
+    /// A word that is no parameter of a service beside those before it, or parameters that lack another.
+    #[error("{0}")]
+    Parameter(ParameterFault),
     /// Data that are longer than a record can have.
     #[error("data of more than 65535 octets")]
     TooLong,

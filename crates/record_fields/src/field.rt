@@ -68,6 +68,8 @@ pub enum Ending {
     Base64IfThere,
     /// Domain names, none or more.
     Names,
+    /// Parameters of a service, none or more (RFC 9460 section 2).
+    Parameters,
 }
 
 impl Fields {

@@ -10,6 +10,7 @@ mod field;
 mod fields;
 mod hosts;
 mod names;
+mod parameters;
 mod parts;
 mod rows;
 mod table;

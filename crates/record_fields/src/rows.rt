@@ -9,6 +9,7 @@ use crate::field::{Ending, Field, Fields};
 use crate::fields::{take_algorithm, take_ipv4, take_u8, take_u16, take_u32};
 use crate::hosts::{push_gateway, push_identity, push_relay};
 use crate::names::{push_name, push_names};
+use crate::parameters::push_parameters;
 use crate::parts::{
     push_eui48, push_eui64, push_groups, push_long, push_short, push_tag, take_certificate_type,
     take_digest_type,
@@ -98,5 +99,6 @@ fn push_ending(
         Ending::Base64 => push_base64(alloc, words, out),
         Ending::Base64IfThere => push_base64_if_there(alloc, words, out),
         Ending::Names => push_names(alloc, origin, words, out),
+        Ending::Parameters => push_parameters(alloc, words, out),
     }
 }

@@ -3,7 +3,7 @@ ghost use Rattle.std.specs.Prelude.{◌≡◌, option_copied};
 ghost use Rattle.record_fields.specs.Rows.{row_of};
 
 use crate::field::{Ending, Field, Fields};
-use Ending::{Base64, Base64IfThere, Hex, Names, Nothing, Octets, TextIfThere, Texts};
+use Ending::{Base64, Base64IfThere, Hex, Names, Nothing, Octets, Parameters, TextIfThere, Texts};
 use Field::{
     Algorithm, CertificateType, DigestType, Eui48, Eui64, Gateway, Groups, Identity, Ipv4, Name,
     Number8, Number16, Number32, Relay, Tag, Text,
@@ -16,7 +16,7 @@ pub struct Row(pub u16, pub Fields, pub Ending);
 
 /// The types whose data are read and printed field by field, by their numbers. The data of any other type are parts of `RData`, or
 /// are read as `\#` alone.
-pub const ROWS: [Row; 51] = [
+pub const ROWS: [Row; 53] = [
     // MD, MF, MB, MG, MR, PTR (RFC 1035 section 3.3), NSAP-PTR (RFC 1348), DNAME (RFC 6672 section 2.1)
     Row(3, One(Name), Nothing),
     Row(4, One(Name), Nothing),
@@ -81,6 +81,9 @@ pub const ROWS: [Row; 51] = [
     Row(45, Two(Number8, Gateway), Base64IfThere),
     Row(260, Two(Number8, Relay), Nothing),
     Row(55, One(Identity), Names),
+    // SVCB, HTTPS (RFC 9460 section 2.2)
+    Row(64, Two(Number16, Name), Parameters),
+    Row(65, Two(Number16, Name), Parameters),
 ];
 
 /// The row of a type, by its number; none if it has none. Takes no memory.

@@ -50,6 +50,7 @@ fn lead_of(reason: Reason) -> Option<&'static str> {
         Reason::OnlyGeneric => Some(": "),
         Reason::HexOctets => Some(", behind "),
         Reason::Include => Some(": "),
+        Reason::Parameter(_) => Some(": "),
         Reason::Entry(_) => None,
         Reason::NoOwner => None,
         Reason::NoTtl => None,

@@ -16,6 +16,8 @@ pub mod NameLengths
 pub mod NamesBack
 pub mod NumbersBack
 pub mod OwnFirst
+pub mod ParameterTexts
+pub mod ParametersBack
 pub mod PartsBack
 pub mod PlacedWords
 pub mod RecordsBack

@@ -15,11 +15,11 @@ there : Option (List ℕ × List ℕ) → List ℕ × List ℕ
 there None = ([], [])
 there (Some x) = x
 
-same_text : (new rest text behind : List ℕ) → ◌≡◌ {A = Option (List ℕ × List ℕ)} (Some (new, rest)) (Some (text, behind)) → new ≡ text
+pub same_text : (new rest text behind : List ℕ) → ◌≡◌ {A = Option (List ℕ × List ℕ)} (Some (new, rest)) (Some (text, behind)) → new ≡ text
 unfolding there
 same_text new rest text behind h = ap (λ (o : Option (List ℕ × List ℕ)). (there o).0) h
 
-same_rest : (new rest text behind : List ℕ) → ◌≡◌ {A = Option (List ℕ × List ℕ)} (Some (new, rest)) (Some (text, behind)) → rest ≡ behind
+pub same_rest : (new rest text behind : List ℕ) → ◌≡◌ {A = Option (List ℕ × List ℕ)} (Some (new, rest)) (Some (text, behind)) → rest ≡ behind
 unfolding there
 same_rest new rest text behind h = ap (λ (o : Option (List ℕ × List ℕ)). (there o).1) h
 

@@ -1,5 +1,5 @@
 -- Data of types that have a row in the table, printed field by field, are read as their octets.
-use Rattle.std.proofs.Common.{◌≡◌, ◌≢◌, ◌<◌, ℕ, zero, suc, List, [], ◌∷◌, ◌++◌, map, length, Bool, true, false, Option, Some, None, Ok, Result, refl, sym, ap, subst, ◌∙◌, append-nil}
+use Rattle.std.proofs.Common.{◌≡◌, ◌≢◌, ◌<◌, ℕ, zero, suc, List, [], ◌∷◌, ◌++◌, map, length, Bool, true, false, cond, Option, Some, None, Ok, Result, refl, sym, ap, subst, ◌∙◌, append-nil}
 use Rattle.std.specs.Prelude.{option_map}
 use Rattle.std.specs.List.{flat_map}
 use Rattle.base64.specs.Engines.{standard}
@@ -19,6 +19,7 @@ use Rattle.record_fields.specs.Texts.{is_generic}
 use Rattle.zone_file.specs.Data.{by_row, next_own_octets}
 use Rattle.zone_file_writer.specs.Labels.{labels_of}
 use Rattle.zone_file_writer.specs.Others.{base64_text, hex_digits, octets_words, string_word}
+use Rattle.zone_file_writer.specs.Parameters.{are_read, if_read, read_texts, texts_within}
 use Rattle.zone_file_writer.specs.Rows.{all_strings, ending_words, field_words, fields_words, name_front, name_word, names_within, other_words, row_words, some_words, string_alone, words_by_row, words_or_octets}
 use Rattle.zone_file_writer.specs.Strings.{strings_of, strings_within}
 use Rattle.zone_file_writer.specs.Words.{PrintedWord, Bare}
@@ -28,6 +29,7 @@ use Rattle.zone_file_writer.proofs.HostsBack.{gateway_back, identity_back, relay
 use Rattle.zone_file_writer.proofs.Lines.{AreWordTexts, words_from}
 use Rattle.zone_file_writer.proofs.NamesBack.{first_of_name, name_there}
 use Rattle.zone_file_writer.proofs.NumbersBack.{digits_back}
+use Rattle.zone_file_writer.proofs.ParametersBack.{parameters_back}
 use Rattle.zone_file_writer.proofs.PlacedWords.{behind, last_from, left, place_from}
 use Rattle.zone_file_writer.proofs.StringFacts.{AreStrings, counted, joined_strings, strings_in, text_back}
 use Rattle.zone_file_writer.proofs.OwnFirst.{hex_own}
@@ -171,6 +173,19 @@ names_form origin os h = by (names_within (length os) os) (names_back origin (le
     by None are = tt
     by (Some ws) are = record { texts = are.texts; own = are.own; read = λ q p. record { place = q; is = rw (are.read p) refl } }
 
+parameters_form : (origin : Name) (os : List ℕ) → IsRowBackIf origin [] E.Parameters os (ending_words E.Parameters os)
+parameters_form origin os = by (texts_within (length os) os)
+  where
+    at : (ts : List (List ℕ)) (b : Bool) → are_read os (read_texts [] ts) ≡ b → IsRowBackIf origin [] E.Parameters os (cond b (Some (map Bare ts)) None)
+    at ts false e = tt
+    at ts true e =
+        let back = parameters_back os ts e in
+        record { texts = back.texts; own = back.own; read = λ q p. record { place = q; is = back.read q p } }
+
+    by : (o : Option (List (List ℕ))) → IsRowBackIf origin [] E.Parameters os (o >>= if_read os [])
+    by None = tt
+    by (Some ts) = at ts (are_read os (read_texts [] ts)) refl
+
 ending_back : (origin : Name) (e : Ending) (os : List ℕ) → AreOctets os → IsRowBackIf origin [] e os (ending_words e os)
 ending_back origin E.Nothing os h = nothing_back origin os
 ending_back origin E.Texts os h = texts_back origin os h
@@ -180,6 +195,7 @@ ending_back origin E.Hex os h = hex_back origin os h
 ending_back origin E.Base64 os h = base64_form origin os h
 ending_back origin E.Base64IfThere os h = base64_form_if_there origin os h
 ending_back origin E.Names os h = names_form origin os h
+ending_back origin E.Parameters os h = parameters_form origin os
 
 -- ---- rows
 

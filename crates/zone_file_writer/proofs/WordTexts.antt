@@ -97,7 +97,7 @@ no_carriage : (d : ℕ) → ((48 + d) == 13) ≡ false
 no_carriage d = grind (arith, nat_tests)
 
 -- an octet that is known, and has no meaning but perhaps that of a backslash
-ordinary : (b : ℕ) → 41 < b → (b == 59) ≡ false → IsOrdinary b
+pub ordinary : (b : ℕ) → 41 < b → (b == 59) ≡ false → IsOrdinary b
 ordinary b h semicolon = record {
   space = grind (arith, nat_tests);
   tab = grind (arith, nat_tests);

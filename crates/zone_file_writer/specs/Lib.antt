@@ -1,7 +1,9 @@
 pub mod Addresses
+pub mod BareWords
 pub mod Labels
 pub mod Laws
 pub mod Moments
+pub mod Parameters
 pub mod Others
 pub mod Printable
 pub mod Printing

@@ -17,6 +17,7 @@ use Rattle.record_fields.specs.Rows.{fields_of, row_of}
 use Rattle.zone_file_writer.specs.Addresses.{address_text}
 use Rattle.zone_file_writer.specs.Labels.{is_wire_form, labels_of}
 use Rattle.zone_file_writer.specs.Others.{base64_text, hex_digits, octets_words, string_word}
+use Rattle.zone_file_writer.specs.Parameters.{parameters_words}
 use Rattle.zone_file_writer.specs.Strings.{escaped, strings_of}
 use Rattle.zone_file_writer.specs.Words.{PrintedWord, Bare, word_text}
 
@@ -154,6 +155,7 @@ ending_words E.Base64 (b ∷ os) = Some (Bare (base64_text (b ∷ os)) ∷ [])
 ending_words E.Base64IfThere [] = Some []
 ending_words E.Base64IfThere (b ∷ os) = Some (Bare (base64_text (b ∷ os)) ∷ [])
 ending_words E.Names os = names_within (length os) os
+ending_words E.Parameters os = parameters_words os
 
 -- fields, one behind the other, and what stands behind them
 abbrev pub fields_words : List Field → Ending → List ℕ → Option (List PrintedWord)

@@ -55,6 +55,8 @@ further_words =
     ∷ record { number = 60; text = codes "CDNSKEY" }
     ∷ record { number = 61; text = codes "OPENPGPKEY" }
     ∷ record { number = 63; text = codes "ZONEMD" }
+    ∷ record { number = 64; text = codes "SVCB" }
+    ∷ record { number = 65; text = codes "HTTPS" }
     ∷ record { number = 99; text = codes "SPF" }
     ∷ record { number = 104; text = codes "NID" }
     ∷ record { number = 105; text = codes "L32" }

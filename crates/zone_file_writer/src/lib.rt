@@ -2,6 +2,7 @@
 #![tactic(auto)]
 
 mod addresses;
+mod bare_words;
 mod data;
 mod denial;
 mod fields;
@@ -13,6 +14,7 @@ mod moments;
 mod octets;
 mod other;
 mod pairs;
+mod parameters;
 mod record;
 mod rows;
 mod signing;

@@ -8,6 +8,7 @@ use crate::fields::{
 };
 use crate::hosts::{push_gateway, push_identity, push_relay};
 use crate::octets::{Base64Text, HexText};
+use crate::parameters::push_parameters;
 use crate::strings::{FurtherStrings, QuotedText, split_string, split_strings};
 use record_fields::{Ending, Field, Row};
 use std::alloc::{AllocError, Global};
@@ -34,7 +35,7 @@ pub(crate) fn row_text(
         left = others;
         rest = behind;
     }
-    if push_ending(row.2, rest, &mut text)? && !text.is_empty() {
+    if push_ending(alloc, row.2, rest, &mut text)? && !text.is_empty() {
         Ok(Some(text))
     } else {
         Ok(None)
@@ -69,7 +70,12 @@ fn push_field<'o>(
 }
 
 /// Appends the words of what stands behind the fields, and gives whether the octets are that.
-fn push_ending(ending: Ending, octets: &[u8], text: &mut String) -> Result<bool, AllocError>
+fn push_ending(
+    alloc: Global,
+    ending: Ending,
+    octets: &[u8],
+    text: &mut String,
+) -> Result<bool, AllocError>
     ensures { IfOk result (λ is. (if is then Some (string_bytes text.new) else None)
         ≡ ended (string_bytes text.old) (ending_words ending octets.now)) }
 {
@@ -85,6 +91,7 @@ fn push_ending(ending: Ending, octets: &[u8], text: &mut String) -> Result<bool,
         Ending::Base64 => push_base64(octets, text),
         Ending::Base64IfThere => push_base64_if_there(octets, text),
         Ending::Names => push_names(octets, text),
+        Ending::Parameters => push_parameters(alloc, octets, text),
     }
 }
 

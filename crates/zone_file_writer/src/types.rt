@@ -24,7 +24,7 @@ impl fmt::Display for TypeText {
 }
 
 /// The words of the types that have a row in the table of `record_fields`, where `RecordType` has none.
-const FURTHER_WORDS: [(u16, &str); 49] = [
+const FURTHER_WORDS: [(u16, &str); 51] = [
     (3, "MD"),
     (4, "MF"),
     (7, "MB"),
@@ -59,6 +59,8 @@ const FURTHER_WORDS: [(u16, &str); 49] = [
     (60, "CDNSKEY"),
     (61, "OPENPGPKEY"),
     (63, "ZONEMD"),
+    (64, "SVCB"),
+    (65, "HTTPS"),
     (99, "SPF"),
     (104, "NID"),
     (105, "L32"),
