@@ -1,0 +1,42 @@
+-- Updates by those who may make them (RFC 2136 section 3.3)
+use Rattle.std.specs.Prelude.{ℕ, Bool, false, not, ◌==◌, ◌&&◌, ◌||◌, if◌then◌else◌, List, Option, Some, None, Result, Err}
+use Rattle.std.specs.List.{list_all}
+use Rattle.zone_proto.specs.Names.{Name, lower}
+use Rattle.zone_proto.specs.Types.{ANY}
+use Rattle.zone_map.specs.Zones.{Sets, types_at}
+use Rattle.update_policy.specs.Policies.{permits}
+use Rattle.update_policy.specs.declared.rule.Rule.{Rule}
+use Rattle.zone_update.specs.Entries.{class_any}
+use Rattle.zone_update.specs.Processing.{goes}
+use Rattle.zone_update.specs.Updates.{updated}
+use Rattle.zone_update.specs.declared.entry.Entry.{Entry}
+use Rattle.zone_update.specs.declared.refusal.Refusal.{Refusal}
+use Rattle.zone_update.specs.declared.refusal.Refusal.TheVariants.{Refused}
+
+-- a record of the update section deletes all sets of its name (section 2.5.3)
+abbrev pub deletes_name : Entry → Bool
+deletes_name r = (r.dns_class.0 == class_any) && (r.record_type.0 == ANY)
+
+module _ (rules : List Rule) (key origin : Name) where
+  -- the owner of the key may change the set of a name and a type, or that set doesn't go with its name
+  abbrev pub may_go : Name → ℕ → Bool
+  may_go n t = not (goes origin n t) || permits rules key n t
+
+  -- The owner of the key may make a change: of the set of its name and type; where all sets of the name are deleted, of each that goes
+  abbrev pub is_permitted : Sets → Entry → Bool
+  is_permitted m r =
+      if deletes_name r then list_all (may_go (lower r.name)) (types_at m (lower r.name))
+      else permits rules key (lower r.name) r.record_type.0
+
+  abbrev pub is_each_permitted : Sets → List Entry → Bool
+  is_each_permitted m changes = list_all (is_permitted m) changes
+
+-- who has a key may make each of these changes; who has none may make none, and can't ask whether prerequisites are met
+abbrev pub are_permitted : List Rule → Option Name → Name → Sets → List Entry → Bool
+are_permitted rules None origin m changes = false
+are_permitted rules (Some key) origin m changes = is_each_permitted rules key origin m changes
+
+-- an update is carried out where each of its changes is permitted, and refused otherwise, whatever its prerequisites are
+abbrev pub updated_if_permitted : List Rule → Option Name → Name → Sets → List Entry → List Entry → Result Sets Refusal
+updated_if_permitted rules key origin m prerequisites changes =
+    if are_permitted rules key origin m changes then updated origin m prerequisites changes else Err Refused
