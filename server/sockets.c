@@ -55,12 +55,14 @@ int sockets_inherited(int *sockets, size_t most) {
     if (!count_text || !pid || atol(pid) != (long)getpid()) return 0;
     size_t datagrams = 0, listeners = 0;
     for (int fd = FIRST_INHERITED; fd < FIRST_INHERITED + atoi(count_text); fd++) {
-        int kind = 0, family = 0;
+        int kind = 0, family = 0, is_alone = 1;
         socklen_t length = sizeof kind;
         getsockopt(fd, SOL_SOCKET, SO_TYPE, &kind, &length);
         getsockopt(fd, SOL_SOCKET, SO_DOMAIN, &family, &length);
-        if ((kind != SOCK_DGRAM && kind != SOCK_STREAM) || (family != AF_INET && family != AF_INET6) || (kind == SOCK_DGRAM ? datagrams : listeners) == most) {
-            log_line("the service manager handed over a socket that is neither UDP nor TCP, or too many");
+        if (family == AF_INET6) getsockopt(fd, IPPROTO_IPV6, IPV6_V6ONLY, &is_alone, &length);
+        if ((kind != SOCK_DGRAM && kind != SOCK_STREAM) || (family != AF_INET && family != AF_INET6) || !is_alone || (kind == SOCK_DGRAM ? datagrams : listeners) == most) {
+            /* (by one of IPv6 that takes IPv4, all clients of IPv4 would be one client) */
+            log_line("the service manager handed over a socket that is neither UDP nor TCP, of IPv6 and takes IPv4 too (BindIPv6Only), or too many");
             return -1;
         }
         fcntl(fd, F_SETFL, O_NONBLOCK);   /* several workers are woken for a client that one of them takes */

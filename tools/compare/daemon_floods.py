@@ -1,12 +1,13 @@
 #!/usr/bin/env python3
-"""tools/compare/daemon_floods.py [SECONDS [COUNT [SERVER..]]]: how long an honest client waits while others flood a server: `ningkraetd`, and
+"""tools/compare/daemon_floods.py [SECONDS [COUNT [FOLDER] [SERVER..]]]: how long an honest client waits while others flood a server: `ningkraetd`, and
 NSD and Knot DNS under the same, one after the other; and how each renews a zone of 100,000 names 24 times while dnsperf asks.
 
 Each server has a worker for each processor and a zone of a thousand hosts that is signed with NSEC3. The floods come from addresses other than
 the honest client's, for SECONDS each (10 where none are named); that of datagrams that no client should send lasts until COUNT of them are sent
 (a million). The honest client asks for an address a hundred times a second by UDP, and twenty times by a TCP connection of its own; an answer
 that doesn't come within two seconds is lost. SERVER is one of ningkraetd, sanitized (the same under the compiler's sanitizers, which is left out
-where no server is named), nsd and knotd.
+where no server is named), nsd and knotd. FOLDER, a word with a /, is what `./build ningkraet` made; where none is named it is what
+`tools/build/program path ningkraet` gives.
 
 Prints for each flood and server the median, the 99th percentile and the longest time in milliseconds, by UDP and by TCP, how many answers were
 lost, how many messages or connections the flood had a second, the memory before and behind, and the ratios of ningkraetd to the others. The
@@ -218,6 +219,12 @@ FLOODS = {
 # ---- the servers
 
 
+def folder_and_servers(words):
+    """The folder of the library, and the servers, that words name; or those that there are."""
+    folders, names = [it for it in words if "/" in it], [it for it in words if "/" not in it]
+    return folders[0] if folders else peers.program("ningkraet"), names or ["ningkraetd", *(it for it in SETTINGS if found(it))]
+
+
 def started(name, folder, room, port, files):
     """A server with these zones, and where its faults stand."""
     log = open(f"{room}/{name}.log", "a+", encoding="utf-8")
@@ -323,10 +330,9 @@ def floods_are_measured(folder, room, names, seconds, count):
 
 
 def main(seconds="10", count="1000000", *names):
-    names = names or ("ningkraetd", *(it for it in SETTINGS if found(it)))
+    folder, names = folder_and_servers(names)
     descriptors = resource.getrlimit(resource.RLIMIT_NOFILE)[1]
     resource.setrlimit(resource.RLIMIT_NOFILE, (descriptors, descriptors))
-    folder = peers.program("ningkraet")
     print(f"daemon_floods: {folder}; {os.cpu_count()} processors\n")
     with tempfile.TemporaryDirectory(prefix="floods-") as room:
         return 0 if floods_are_measured(folder, room, names, float(seconds), int(count)) else 1

@@ -40,11 +40,11 @@ class LeftOut(Exception):
     pass
 
 
-def opened(family, kind, host):
+def opened(family, kind, host, is_alone=True):
     """A socket as systemd opens one and hands it over: one that waits (systemd.exec's NonBlocking=no)."""
     it = socket.socket(family, kind)
     if family == socket.AF_INET6:
-        it.setsockopt(socket.IPPROTO_IPV6, socket.IPV6_V6ONLY, 1)
+        it.setsockopt(socket.IPPROTO_IPV6, socket.IPV6_V6ONLY, is_alone)
     it.setsockopt(socket.SOL_SOCKET, socket.SO_REUSEADDR, 1)
     it.bind(host)
     if kind == socket.SOCK_STREAM:
@@ -84,8 +84,10 @@ def sockets_are_handed_over(room):
         os.close(it)
 
 
-def sockets_that_are_not_a_pair_are_refused(room):
-    with opened(socket.AF_INET, socket.SOCK_STREAM, ("127.0.0.1", 0)) as it:
+def other_sockets_are_refused(room):
+    for told, it in (("0 sockets for UDP and 1 for TCP", opened(socket.AF_INET, socket.SOCK_STREAM, ("127.0.0.1", 0))),
+                     ("takes IPv4 too", opened(socket.AF_INET6, socket.SOCK_STREAM, ("::", 0), is_alone=False)),
+                     ("neither UDP nor TCP", socket.socket(socket.AF_UNIX))):
         handed = fcntl.fcntl(it, fcntl.F_DUPFD, FROM)
         server = Server(room, hosts=())
         server.words = ["bash", "-c", f'exec env LISTEN_PID=$$ LISTEN_FDS=1 "$@" 3<&{handed}', "-", *server.words]
@@ -94,9 +96,10 @@ def sockets_that_are_not_a_pair_are_refused(room):
             with server:
                 raise AssertionError("it starts")
         except AssertionError as wrong:
-            need("0 sockets for UDP and 1 for TCP" in str(wrong), wrong)
-        server.process.wait()
+            need(told in str(wrong), wrong)
+        need(server.process.wait(PATIENCE) == 2, "its status")
         os.close(handed)
+        it.close()
 
 
 def asked_from_each_address(room):
@@ -248,7 +251,7 @@ def changes_are_seen(room):
         need("example.net 6" in server.control("zones")[1], "a change of a zone that a command added")
 
 
-TESTS = [sockets_are_handed_over, sockets_that_are_not_a_pair_are_refused, the_address_that_was_asked_answers, memory_runs_out, rights_are_given_up,
+TESTS = [sockets_are_handed_over, other_sockets_are_refused, the_address_that_was_asked_answers, memory_runs_out, rights_are_given_up,
          changes_are_seen]
 
 

@@ -1,7 +1,8 @@
 #!/usr/bin/env python3
-"""tools/compare/daemon_renewals.py [NAMES [SERVER..]]: a zone of 100,000 names, or of NAMES, is renewed 24 times by SIGHUP while dnsperf asks as
+"""tools/compare/daemon_renewals.py [NAMES [FOLDER] [SERVER..]]: a zone of 100,000 names, or of NAMES, is renewed 24 times by SIGHUP while dnsperf asks as
 fast as it can and another client reads answers whole, of `ningkraetd`, NSD and Knot DNS, one after the other, or of those named (ningkraetd,
-nsd, knotd), with a worker for each processor.
+nsd, knotd), with a worker for each processor. FOLDER, a word with a /, is what `./build ningkraet` made; where none is named it is what
+`tools/build/program path ningkraet` gives.
 
 Prints for each the answers a second, how many were lost, the median and the longest time of the other client's answers in milliseconds, the
 seconds from the signal until the new zone is served, and the memory. The status is 1 if with ningkraetd an answer was lost or wrong, a new zone
@@ -24,8 +25,7 @@ sys.path.append(os.path.dirname(os.path.dirname(os.path.realpath(__file__))))
 
 import frames
 import peers
-from daemon_floods import ADDRESS, PATIENCE, SETTINGS, Outcome, honest, part, started
-from peers import found
+from daemon_floods import ADDRESS, PATIENCE, SETTINGS, Outcome, folder_and_servers, honest, part, started
 
 # How many times the zone is renewed, how often at most in seconds, and for how long a new zone is waited for.
 RENEWALS, TURN, COMES = 24, 1.0, 120
@@ -94,10 +94,9 @@ def renewed(name, folder, room, names):
 
 
 def main(names="100000", *servers):
-    servers = servers or ("ningkraetd", *(it for it in SETTINGS if found(it)))
     if not shutil.which("dnsperf"):
         sys.exit("daemon_renewals: dnsperf isn't there")
-    folder, went = peers.program("ningkraet"), True
+    (folder, servers), went = folder_and_servers(servers), True
     print(f"daemon_renewals: {folder}; {RENEWALS} renewals of a zone of {int(names):,} names; {os.cpu_count()} processors\n")
     print("| Server | Answers a second | Lost by dnsperf | by the other client | Its median, ms | its longest | Seconds until the new zone is served | "
           "Kilobytes in the first third | in all |\n|---|---|---|---|---|---|---|---|---|", flush=True)
