@@ -6,6 +6,7 @@
   ./sign answer PLAN --keys FOLDER -o SIGNATURES       signs that, for example on another machine, which has the private keys
   ./sign finish ZONE --keys FOLDER --plan PLAN --signatures SIGNATURES [-o FILE]
   ./sign ZONE --keys FOLDER --ds                       writes the DS records for the parent zone
+  ./sign ZONE --digest [--keys FOLDER] [-o FILE]       writes the zone with its ZONEMD record made anew, and nothing else
 
   --origin NAME             the origin of the zone, if it isn't the owner of the first SOA in the file, or if the folder has keys of
                             several zones
@@ -16,6 +17,10 @@
   --opt-out                 with NSEC3: delegations without DS have no NSEC3 record
   --key-ttl SECONDS         the TTL of the DNSKEY, CDS and CDNSKEY records. The default is 3600
   --cds                     adds CDS and CDNSKEY records for the keys that sign keys, so that the parent can update its DS records
+  --zonemd                  adds a ZONEMD record with the digest of the signed zone, in place of the one that the file has
+  --digest                  the zone, signed with --zonemd or not signed, stays as it is but for its ZONEMD record and that one's
+                            signature; without --keys for a zone that isn't signed. After `finish --zonemd`, a second `plan --digest`,
+                            `answer` and `finish --digest` put in the digest
   --again TIME              valid signatures that the zone file has stay, if they hold for so long from the first moment on, as 5d, 12h or
                             3600, and nothing that they are made of has changed; only the others are made
   --old FILE                with --again: the signatures of this earlier version of the signed zone, instead of those in the zone file
@@ -67,7 +72,7 @@ def duration(word):
 def options(words):
     shape = argparse.ArgumentParser(prog="sign", description=__doc__, formatter_class=argparse.RawDescriptionHelpFormatter, usage=argparse.SUPPRESS)
     shape.add_argument("zone")
-    shape.add_argument("--keys", required=True)
+    shape.add_argument("--keys")
     shape.add_argument("--origin")
     shape.add_argument("--from", dest="start", type=moment)
     shape.add_argument("--until", dest="end", type=moment)
@@ -76,6 +81,8 @@ def options(words):
     shape.add_argument("--opt-out", action="store_true")
     shape.add_argument("--key-ttl", type=int, default=3600)
     shape.add_argument("--cds", action="store_true")
+    shape.add_argument("--zonemd", action="store_true")
+    shape.add_argument("--digest", action="store_true")
     shape.add_argument("--ds", action="store_true")
     shape.add_argument("--again", type=duration)
     shape.add_argument("--old")
@@ -169,15 +176,21 @@ def program():
     return made.stdout.strip() if made.returncode == 0 else sys.exit(2)
 
 
+def key_files(it):
+    """The files of the public halves of the keys; none where no folder is given, of a zone that isn't signed."""
+    return publics(it.keys, it.origin) if it.keys else []
+
+
 def call(mode, it):
     words = [program(), mode, it.zone, "--from", str(it.start), "--until", str(it.end), "--jitter", str(it.jitter), "--key-ttl", str(it.key_ttl)]
     words += ["--origin", it.origin] if it.origin else []
     words += ["--nsec3", *it.nsec3] if it.nsec3 else []
     words += ["--opt-out"] if it.opt_out else []
     words += ["--cds"] if it.cds else []
+    words += ["--digest"] if it.digest else ["--zonemd"] if it.zonemd else []
     words += ["--old", it.old or it.zone, "--again", str(it.again)] if it.again is not None else []
     words += ["--wrong", it.wrong.name] if it.again is not None and it.wrong else []
-    for path in publics(it.keys, it.origin):
+    for path in key_files(it):
         words += ["--key", path]
     return words
 
@@ -299,9 +312,20 @@ def finish(it):
     return signed(it, kept)
 
 
+def with_digest(it, answer):
+    """Signs the zone, and then puts its digest into it."""
+    with tempfile.NamedTemporaryFile() as between:
+        status = signed(argparse.Namespace(**{**vars(it), "output": between.name}), answer)
+        return status or signed(argparse.Namespace(**{**vars(it), "zone": between.name, "digest": True, "again": None}), answer)
+
+
 def main(words):
     mode = words[0] if words and words[0] in ("plan", "answer", "finish") else None
     it = options(words[1:] if mode else words)
+    if not it.keys and (mode or it.ds or not it.digest):
+        fail("--keys is missing, the folder with the keys")
+    if it.digest and (it.zonemd or it.again is not None):
+        fail("--digest goes with neither --zonemd nor --again")
     if it.opt_out and not it.nsec3:
         fail("--opt-out needs --nsec3")
     if it.old and it.again is None:
@@ -314,10 +338,10 @@ def main(words):
         return {"plan": plan, "answer": answer, "finish": finish}[mode](it)
     if it.ds:
         return passed_on("ds", it)
-    keys = signers(it.keys, names(publics(it.keys, it.origin)))
+    keys = signers(it.keys, names(key_files(it)))
     if it.again is not None:
         only_valid(it)
-    return signed(it, lambda asked: answers(keys, asked))
+    return (with_digest if it.zonemd else signed)(it, lambda asked: answers(keys, asked))
 
 
 if __name__ == "__main__":

@@ -30,6 +30,10 @@ denial_fault kind.Nsec origin m = None
 denial_fault (kind.Nsec3 algorithm salt iterations opt_out) origin m =
     option_and_then hash_fault (nsec3_fault origin m (hash_with name_digest (record { algorithm = algorithm; opt_out = opt_out; iterations = iterations; salt = salt })) opt_out)
 
+-- why no set of a zone is signed: by its keys and the moments, in this order
+abbrev pub request_fault : List PlannedKey → Request → Option PlanFault
+request_fault keys request = option_or (keys_fault keys) (moments_fault request)
+
 -- why a zone isn't planned: by its keys, the moments, its sets, and the denials of the zone with its keys, in this order
 abbrev pub plan_fault : Name → Sets → List PlannedKey → Request → Option PlanFault
 plan_fault origin m keys request =

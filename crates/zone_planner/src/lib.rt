@@ -14,3 +14,4 @@ mod zone;
 pub use keys::{PlannedKey, planned_by_flags};
 pub use planning::make_plan;
 pub use request::Request;
+pub use signers::plan_signers;

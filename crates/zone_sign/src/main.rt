@@ -1,4 +1,4 @@
-//! `zone_sign MODE FILE [--origin NAME] --from N --until N [--jitter N] [--key-ttl N] [--cds] [--nsec3 SALT ITERATIONS [--opt-out]]
+//! `zone_sign MODE FILE [--origin NAME] --from N --until N [--jitter N] [--key-ttl N] [--cds] [--zonemd | --digest] [--nsec3 SALT ITERATIONS [--opt-out]]
 //! [--old FILE --again N [--wrong FILE]] --key FILE..`: writes what has to be signed in a zone file, and puts the signatures into it, without reading a private key.
 //!
 //! MODE is `plan`, which writes a frame for each signature: the number of its key, from 0, in one octet, a length in four octets, and
@@ -14,6 +14,7 @@
 
 ghost use Rattle.std.specs.Prelude.{◌≤◌};
 
+mod digesting;
 mod digests;
 mod keeping;
 mod keys;
@@ -30,7 +31,7 @@ use std::{env, io};
 use wanted::{Mode, Wanted, wanted_by};
 
 const USAGE: &[u8] =
-    b"usage: zone_sign plan|sign|standing|ds FILE [--origin NAME] --from N --until N [--jitter N] [--key-ttl N] [--cds] [--nsec3 SALT ITERATIONS [--opt-out]] [--old FILE --again N [--wrong FILE]] --key FILE..\n";
+    b"usage: zone_sign plan|sign|standing|ds FILE [--origin NAME] --from N --until N [--jitter N] [--key-ttl N] [--cds] [--zonemd | --digest] [--nsec3 SALT ITERATIONS [--opt-out]] [--old FILE --again N [--wrong FILE]] --key FILE..\n";
 
 fn main(rt: HostRuntime) -> ExitCode {
     let alloc = rt.alloc();

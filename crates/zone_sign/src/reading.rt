@@ -30,6 +30,28 @@ pub fn read_zone_of<E: Write>(
     load_unsigned(alloc, wanted, records, fault)
 }
 
+/// The zone in the file, with its signatures, denials and keys. None if there is none, which is reported.
+pub fn read_whole_zone<E: Write>(
+    rt: &HostRuntime,
+    wanted: &Wanted<'_>,
+    fault: &mut E,
+) -> Option<Loaded>
+    ensures { IfSome result (λ loaded. IsZone loaded.records) }
+{
+    let alloc = rt.alloc();
+    let Ok(first) = first_origin(alloc, &wanted.origin) else {
+        return refuse(fault, wanted.file, &"out of memory");
+    };
+    let records = read_records(rt, wanted.file, first, fault)?;
+    let Ok(origin) = zone_origin(alloc, &wanted.origin, records.as_slice()) else {
+        return refuse(fault, wanted.file, &"out of memory");
+    };
+    let Ok(given) = without_wrong(alloc, records, &[]) else {
+        return refuse(fault, wanted.file, &"out of memory");
+    };
+    load_given(alloc, wanted.file, origin, given, fault)
+}
+
 /// The zone of an origin in a file, with its denials and keys, and with its signatures but for the wrong ones, which ascend. None if
 /// there is no zone, which is reported.
 pub fn read_signed_zone<E: Write>(

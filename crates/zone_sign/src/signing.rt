@@ -2,11 +2,12 @@
 ghost use Rattle.std.specs.Prelude.{◌≡◌, IfSome};
 ghost use Rattle.zone_map.specs.Zones.{IsZone};
 
+use crate::digesting::{place_digest, plan_digest};
 use crate::keeping::{keep_standing, write_standing};
 use crate::keys::read_keys;
 use crate::reading::read_zone_of;
 use crate::reporting::refuse;
-use crate::wanted::{Mode, Wanted};
+use crate::wanted::{Mode, Wanted, ZoneDigest};
 use std::alloc::{AllocError, Global};
 use std::io;
 use std::io::{BufWriter, Read, Write};
@@ -21,20 +22,18 @@ use zone_proto::{DNSKEY, LowerName, ProtoError, RecordSet, RecordType, RrKey};
 /// reported.
 pub fn sign<E: Write>(rt: &HostRuntime, wanted: &Wanted<'_>, fault: &mut E) -> Option<()> {
     let alloc = rt.alloc();
-    let loaded = read_zone_of(rt, wanted, fault)?;
-    let keys = read_keys(rt, wanted, &loaded.origin, fault)?;
-    let Ok(apex) = apex_of(&loaded.origin) else {
-        return refuse(fault, wanted.file, &"out of memory");
+    let Planned { plan, apex } = if wanted.zone_digest == ZoneDigest::Renewed {
+        plan_digest(rt, wanted, fault)?
+    } else {
+        plan_zone(rt, wanted, fault)?
     };
-    let planned = plan(alloc, wanted, loaded, keys, fault)?;
-    let planned = keep_standing(rt, wanted, planned, &apex, fault)?;
     let Ok(mut output) = BufWriter::new(alloc, io::writer(rt)) else {
         return refuse(fault, wanted.file, &"out of memory");
     };
     let written = if wanted.mode == Mode::Standing {
-        write_standing(alloc, &mut output, &planned.records)
+        write_standing(alloc, &mut output, &plan.records)
     } else {
-        write_plan(alloc, &mut output, &planned.records)
+        write_plan(alloc, &mut output, &plan.records)
     };
     match written {
         Ok(()) => {}
@@ -44,15 +43,38 @@ pub fn sign<E: Write>(rt: &HostRuntime, wanted: &Wanted<'_>, fault: &mut E) -> O
     if wanted.mode != Mode::Sign {
         return Some(());
     }
-    let records = signed(rt, wanted, planned, fault)?;
+    let records = signed(rt, wanted, plan, fault)?;
     match write_zone(alloc, &mut output, &apex, &records) {
         Ok(()) => Some(()),
         Err(_) => refuse(fault, wanted.file, &"write failed"),
     }
 }
 
+/// A zone that is planned to be signed, and the key of its SOA.
+#[derive(Drop)]
+pub(crate) struct Planned {
+    pub(crate) plan: Plan,
+    pub(crate) apex: RrKey,
+}
+
+/// The zone in the file as it is planned to be signed, with the signatures of an old one that stay. None if it is refused, which is
+/// reported.
+fn plan_zone<E: Write>(rt: &HostRuntime, wanted: &Wanted<'_>, fault: &mut E) -> Option<Planned> {
+    let mut loaded = read_zone_of(rt, wanted, fault)?;
+    let keys = read_keys(rt, wanted, &loaded.origin, fault)?;
+    let Ok(apex) = apex_of(&loaded.origin) else {
+        return refuse(fault, wanted.file, &"out of memory");
+    };
+    if wanted.zone_digest == ZoneDigest::Placed {
+        place_digest(wanted, &mut loaded, fault)?;
+    }
+    let planned = plan(rt.alloc(), wanted, loaded, keys, fault)?;
+    let plan = keep_standing(rt, wanted, planned, &apex, fault)?;
+    Some(Planned { plan, apex })
+}
+
 /// The key of the SOA of a zone.
-fn apex_of(origin: &LowerName) -> Result<RrKey, ProtoError> {
+pub(crate) fn apex_of(origin: &LowerName) -> Result<RrKey, ProtoError> {
     Ok(RrKey::new(origin.clone()?, RecordType::SOA))
 }
 
@@ -66,23 +88,27 @@ fn plan<E: Write>(
 ) -> Option<Plan>
     ensures { IfSome result (λ plan. IsZone plan.records) }
 {
-    let Ok(nx_proof_kind) = wanted.nx_proof_kind.clone() else {
-        return refuse(fault, wanted.file, &"out of memory");
-    };
     let Ok(keys) = planned_by_flags(alloc, keys.as_slice(), wanted.asks_parent) else {
         return refuse(fault, wanted.file, &"out of memory");
     };
-    let request = Request {
-        inception: wanted.inception,
-        expiration: wanted.expiration,
-        jitter: wanted.jitter,
-        key_ttl: wanted.key_ttl,
-        nx_proof_kind,
+    let Ok(request) = request_of(wanted) else {
+        return refuse(fault, wanted.file, &"out of memory");
     };
     match make_plan(alloc, loaded.origin, loaded.records, keys, &request) {
         Ok(planned) => Some(planned),
         Err(why) => refuse(fault, wanted.file, &why),
     }
+}
+
+/// How a zone is to be signed.
+pub(crate) fn request_of(wanted: &Wanted<'_>) -> Result<Request, ProtoError> {
+    Ok(Request {
+        inception: wanted.inception,
+        expiration: wanted.expiration,
+        jitter: wanted.jitter,
+        key_ttl: wanted.key_ttl,
+        nx_proof_kind: wanted.nx_proof_kind.clone()?,
+    })
 }
 
 /// The planned zone with the signatures that are read. None if they are refused, which is reported.

@@ -19,6 +19,17 @@ pub enum Mode {
     Ds,
 }
 
+/// What becomes of the ZONEMD record of the zone (RFC 8976).
+#[derive(Clone, Copy, PartialEq, Eq, Debug)]
+pub enum ZoneDigest {
+    /// Nothing: it stays as the file has it.
+    Unchanged,
+    /// The zone gets one before it is signed, so that its denials list the type. Its digest is that of the unsigned zone.
+    Placed,
+    /// It gets the digest of the zone, which stays as it is otherwise.
+    Renewed,
+}
+
 /// What is wanted of the program.
 #[derive(Drop)]
 pub struct Wanted<'w> {
@@ -38,6 +49,8 @@ pub struct Wanted<'w> {
     pub key_ttl: u32,
     /// Whether the zone asks its parent for the DS records of its keys, by CDS and CDNSKEY (RFC 7344).
     pub asks_parent: bool,
+    /// What becomes of its ZONEMD record.
+    pub zone_digest: ZoneDigest,
     /// How the zone denies what it doesn't hold.
     pub nx_proof_kind: NxProofKind,
     /// The file with an earlier version of the signed zone, if signatures of it are to stay.
@@ -70,6 +83,7 @@ pub fn wanted_by(alloc: Global, words: &[String]) -> Result<Option<Wanted<'_>>, 
         jitter: 0,
         key_ttl: KEY_TTL,
         asks_parent: false,
+        zone_digest: ZoneDigest::Unchanged,
         nx_proof_kind: NxProofKind::Nsec,
         old: None,
         wrong: None,
@@ -117,6 +131,14 @@ fn take<'w>(
         }
         "--cds" => {
             wanted.asks_parent = true;
+            Ok(Some(0))
+        }
+        "--zonemd" => {
+            wanted.zone_digest = ZoneDigest::Placed;
+            Ok(Some(0))
+        }
+        "--digest" => {
+            wanted.zone_digest = ZoneDigest::Renewed;
             Ok(Some(0))
         }
         "--nsec3" => take_nsec3(alloc, wanted, others),
