@@ -160,6 +160,67 @@ uint32_t nk_zones_serial(nk_zones *zones, const uint8_t *origin, size_t origin_l
 uint32_t nk_zones_answer(nk_zones *zones, uint64_t now, const uint8_t *query, size_t query_length, size_t limit, uint32_t transport,
                          uint8_t *buffer, size_t buffer_length, size_t *written);
 
+/* What a server answers by options of EDNS (RFC 6891 section 6.1.2). */
+typedef struct nk_settings {
+    const uint8_t *nsid;         /* the server's identifier (RFC 5001), if it has any octets */
+    size_t nsid_length;
+    const uint8_t *secrets;      /* the secrets for cookies (RFC 7873): 16 octets are the current one; 32 are that and the one before it, by which */
+    size_t secrets_length;       /* cookies are still valid. With any other number of octets there are none, and COOKIE options are ignored. */
+    uint32_t cookies_required;   /* other than 0: a UDP query with a COOKIE option, but no valid server cookie, gets BADCOOKIE and a new one */
+} nk_settings;
+
+/* A message, and how it came. */
+typedef struct nk_message {
+    const uint8_t *octets;
+    size_t octets_length;
+    const uint8_t *address;      /* the client's, of 4 or 16 octets */
+    size_t address_length;
+    uint64_t moment;             /* the time, in seconds since 1970-01-01 00:00 UTC: a server cookie is valid for an hour */
+    size_t limit;                /* as nk_zones_answer has it */
+    uint32_t transport;          /* NK_UDP or NK_TCP */
+} nk_message;
+
+/* What a response was, to be counted, logged and limited by. */
+typedef struct nk_summary {
+    uint32_t code;               /* the response code, of twelve bits (RFC 6891 section 6.1.3) */
+    uint32_t kind;               /* NK_ANSWER to NK_OTHER */
+    uint32_t truncated;          /* 1 if it is truncated (TC), else 0 */
+    uint32_t cookie;             /* what the query told by a COOKIE option: NK_COOKIE_ABSENT to NK_COOKIE_KNOWN */
+} nk_summary;
+
+/* The kind of a response. */
+enum {
+    NK_ANSWER = 0,       /* there is an answer */
+    NK_REFERRAL = 1,     /* it refers to the servers of a zone below (RFC 1034 section 4.3.2) */
+    NK_NO_DATA = 2,      /* the name has no data of the type (RFC 2308 section 2.2) */
+    NK_NAME_ERROR = 3,   /* there is no such name (RFC 2308 section 2.1) */
+    NK_REFUSED = 4,      /* REFUSED: the name is in none of the zones */
+    NK_FAILED = 5,       /* another code than NOERROR, NXDOMAIN and REFUSED */
+    NK_TRUNCATED = 6,    /* truncated, with nothing left of the answer */
+    NK_OTHER = 7         /* not the response to a standard query */
+};
+
+/* What a query told by a COOKIE option (RFC 7873 section 5.2). */
+enum {
+    NK_COOKIE_ABSENT = 0,      /* it has none, or there are no secrets */
+    NK_COOKIE_MALFORMED = 1,   /* it is malformed, which gets FORMERR */
+    NK_COOKIE_UNKNOWN = 2,     /* it has no server cookie, or one that isn't valid, or isn't any more: the client's address may be forged */
+    NK_COOKIE_KNOWN = 3        /* it has a valid server cookie, so the client gets what is sent to its address */
+};
+
+/* The same as nk_zones_answer, with options in the OPT record of the response, and tells what the response was.
+ *
+ *  - COOKIE, if the query has one and there are secrets: the client's cookie with a new server cookie (RFC 7873, RFC 9018).
+ *  - An extended error (RFC 8914) with REFUSED: 20, Not Authoritative; and with SERVFAIL: 0, Other Error.
+ *  - NSID, if the query asks for it and there is an identifier (RFC 5001).
+ *
+ * A UDP response leaves room for cookie and identifier within its limit; an option that finds none is left out. A query without an OPT record
+ * gets the response of nk_zones_answer. `summary` stays as it was with any code but NK_DONE and NK_NO_ROOM.
+ *
+ * NK_DONE, NK_IGNORED, NK_NO_ROOM, NK_NO_MEMORY, NK_BAD_TRANSPORT or NK_CLOSED. */
+uint32_t nk_zones_answer_client(nk_zones *zones, const nk_settings *settings, const nk_message *message, uint8_t *buffer,
+                                size_t buffer_length, size_t *written, nk_summary *summary);
+
 #ifdef __cplusplus
 }
 #endif

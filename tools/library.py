@@ -67,6 +67,9 @@ WORDS = {
     "&mut [u8]": "&mut room",
     "&mut usize": "&mut written",
     "&mut u32": "&mut serial",
+    "&ServerSettings<'_>": "&settings",
+    "&ClientMessage<'_>": "&message",
+    "&mut SummaryNumbers": "&mut summary",
 }
 
 PROGRAM = """
@@ -74,6 +77,9 @@ fn main(rt: HostRuntime) -> std::process::ExitCode {{
     let alloc = rt.alloc();
     let (mut zones, mut other) = (Handle::empty(alloc), Handle::empty(alloc));
     let (text, mut room, mut written, mut serial) = ([0u8; 8], [0u8; 8], 0usize, 0u32);
+    let settings = ServerSettings {{ nsid: &text, secrets: &text, cookies_required: 0 }};
+    let message = ClientMessage {{ octets: &text, address: &text, moment: 0, limit: 512, transport: 0 }};
+    let mut summary = SummaryNumbers {{ code: 0, kind: 0, truncated: 0, cookie: 0 }};
     let mut code = 0u32;
 {calls}    std::process::ExitCode::from(code.min(9) as u8)
 }}

@@ -3,7 +3,7 @@
  *     cc library_test.c $(pkg-config --cflags --libs ningkraet) -Wl,--wrap=malloc,--wrap=realloc -o library_test
  *     ./library_test [DATAGRAMS]
  *
- * Each refusal is made; then each allocation of each call fails in turn: the call says so and changes nothing, or does without, and it
+ * Each refusal is made, and clients come with cookies; then each allocation of each call fails in turn: the call says so and changes nothing, or does without, and it
  * succeeds when it is made again. Then so many datagrams, which are queries with octets turned, are answered. With NOT_WRAPPED, as beside
  * a sanitizer, which has a malloc of its own, no allocation fails. */
 #include <ningkraet.h>
@@ -60,6 +60,24 @@ static uint32_t answer(nk_zones *zones, const char *label, int type, uint32_t tr
     return nk_zones_answer(zones, 0, query, length, 1232, transport, room, space, written);
 }
 
+/* The answer to a client that asks for NSID and has a cookie of so many octets, if there are any; the cookie of the response is put in its
+ * place where it has one. */
+static nk_summary summary;
+static uint32_t answer_client(nk_zones *zones, uint32_t transport, int is_required, uint64_t now, uint8_t *cookie, size_t *cookie_length, size_t space, size_t *written) {
+    static const uint8_t secrets[32] = {1}, address[4] = {192, 0, 2, 1}, nsid[2] = {'n', 's'};
+    uint8_t query[192];
+    size_t length = query_of(query, "www", 1), at = length;
+    query[length - 1] = 4 + (*cookie_length ? 4 + *cookie_length : 0);
+    memcpy(query + at, (uint8_t[]){0, 3, 0, 0, 0, 10, 0, *cookie_length}, 8);
+    memcpy(query + at + 8, cookie, *cookie_length);
+    nk_settings settings = {nsid, 2, secrets, 32, is_required};
+    nk_message message = {query, length + query[length - 1], address, 4, now, 1232, transport};
+    uint32_t code = nk_zones_answer_client(zones, &settings, &message, room, space, written, &summary);
+    for (size_t i = 12; code == NK_DONE && i + 28 <= *written; i++)
+        if (!memcmp(room + i, (uint8_t[]){0, 10, 0, 24}, 4) && !memcmp(room + i + 4, cookie, 8)) memcpy(cookie, room + i + 4, *cookie_length = 24);
+    return code;
+}
+
 static int is_untouched(void) { return !memcmp(room, before, sizeof room); }
 
 #define IS(fact) do { if (!(fact)) return printf("line %d: not so: %s\n", __LINE__, #fact), 1; } while (0)
@@ -96,10 +114,41 @@ static int refusals(void) {
     return 0;
 }
 
+/* Cookies: what each tells, which is made anew, and for how long it is taken. */
+static int cookies(void) {
+    nk_zones zones = NK_ZONES_NONE;
+    size_t written = 9, length = 0;
+    uint8_t cookie[24] = {1, 2, 3, 4, 5, 6, 7, 8}, first[24];
+    memset(room, 85, sizeof room);
+    summary = (nk_summary){9, 9, 9, 9};
+    IS(answer_client(&zones, NK_UDP, 0, 1000, cookie, &length, 1232, &written) == NK_CLOSED && !written && is_untouched() && summary.kind == 9);
+    IS(nk_zones_new(&zones) == NK_DONE && load(&zones, 0, ORIGIN, text, &written) == NK_DONE);
+    memset(room, 85, sizeof room);
+    IS(answer_client(&zones, 2, 0, 1000, cookie, &length, 1232, &written) == NK_BAD_TRANSPORT && !written && is_untouched() && summary.cookie == 9);
+    IS(answer_client(&zones, NK_UDP, 0, 1000, cookie, &length, 20, &written) == NK_NO_ROOM && written > 20 && is_untouched() && summary.kind == NK_ANSWER);
+    IS(answer_client(&zones, NK_UDP, 1, 1000, cookie, &length, 1232, &written) == NK_DONE && summary.code == 0 && summary.cookie == NK_COOKIE_ABSENT && !length);
+    IS(!memcmp(room + written - 6, "\0\3\0\2ns", 6));
+    length = 7;
+    IS(answer_client(&zones, NK_UDP, 0, 1000, cookie, &length, 1232, &written) == NK_DONE && summary.code == 1 && summary.cookie == NK_COOKIE_MALFORMED && written == 12);
+    length = 8;
+    IS(answer_client(&zones, NK_UDP, 1, 1000, cookie, &length, 1232, &written) == NK_DONE && summary.code == 23 && summary.cookie == NK_COOKIE_UNKNOWN && length == 24 && !room[7]);
+    memcpy(first, cookie, 24);
+    IS(answer_client(&zones, NK_UDP, 1, 1900, cookie, &length, 1232, &written) == NK_DONE && summary.code == 0 && summary.cookie == NK_COOKIE_KNOWN && room[7] == 1);
+    IS(memcmp(first, cookie, 24) && answer_client(&zones, NK_UDP, 1, 4700, cookie, &length, 1232, &written) == NK_DONE && summary.cookie == NK_COOKIE_KNOWN);
+    IS(answer_client(&zones, NK_UDP, 1, 4700, first, &length, 1232, &written) == NK_DONE && summary.code == 23 && summary.kind == NK_FAILED && summary.cookie == NK_COOKIE_UNKNOWN);
+    cookie[20] ^= 1;
+    IS(answer_client(&zones, NK_UDP, 0, 4700, cookie, &length, 1232, &written) == NK_DONE && summary.code == 0 && summary.cookie == NK_COOKIE_UNKNOWN && !summary.truncated);
+    length = 8;
+    IS(answer_client(&zones, NK_TCP, 1, 4700, cookie, &length, sizeof room, &written) == NK_DONE && summary.code == 0 && summary.cookie == NK_COOKIE_UNKNOWN && length == 24);
+    IS(drop(&zones, ORIGIN) == NK_DONE && answer_client(&zones, NK_TCP, 0, 4700, cookie, &length, sizeof room, &written) == NK_DONE && summary.kind == NK_REFUSED);
+    nk_zones_free(&zones);
+    return 0;
+}
+
 /* The calls of the session, by their numbers; and what is asked for. */
 static const char *const labels[] = {"www", "nowhere", "a.cut", "alias", "a.wild", "www"};
 static const int types[] = {16, 1, 1, 1, 1, 15};
-enum { NEW, LOAD, LOAD_BAD, ADD, SERIAL, COPY, DROP, PREPARE, ANSWER, CALLS = ANSWER + 6 };
+enum { NEW, LOAD, LOAD_BAD, ADD, SERIAL, COPY, DROP, PREPARE, CLIENT, ANSWER, CALLS = ANSWER + 6 };
 
 /* A copy has the zones, or the other stays as it was. */
 static uint32_t copied(nk_zones *zones, nk_zones *other) {
@@ -123,6 +172,9 @@ static uint32_t call(nk_zones *zones, nk_zones *other, int number) {
     if (number == SERIAL) return (code = serial(zones, ORIGIN, &of)) == NK_DONE && of != 7 ? 99 : code != NK_DONE && of != 8 ? 98 : code;
     if (number == LOAD || number == LOAD_BAD) code = load(zones, 0, ORIGIN, number == LOAD ? text : bad_text, &written);
     if (number == ADD) code = load(zones, 1, "other.example", text, &written);
+    uint8_t cookie[24] = {1};
+    size_t length = 8;
+    if (number == CLIENT) code = answer_client(zones, NK_UDP, 0, 1000, cookie, &length, sizeof room, &written);
     if (number >= ANSWER) code = answer(zones, labels[number - ANSWER], types[number - ANSWER], NK_UDP, sizeof room, &written);
     return code == NK_NO_MEMORY && (written || !is_untouched()) ? 97 : code;
 }
@@ -165,7 +217,7 @@ static int datagrams(nk_zones *zones, long count) {
 int main(int argc, char **argv) {
     nk_zones zones = NK_ZONES_NONE;
     memset(before, 85, sizeof before);
-    int status = refusals() || failures(&zones) || datagrams(&zones, argc > 1 ? atol(argv[1]) : 0);
+    int status = refusals() || cookies() || failures(&zones) || datagrams(&zones, argc > 1 ? atol(argv[1]) : 0);
     nk_zones_free(&zones);
     return status;
 }

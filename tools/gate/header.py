@@ -1,6 +1,6 @@
 #!/usr/bin/env python3
 """Checks that include/ningkraet.h declares what the static library has: the same names, in the same order, with as many parameters of the
-same kinds, the same codes with the same numbers, and the same interface number. If cc is available, the header is also compiled as C
+same kinds, structs with the same fields, the same codes and kinds with the same numbers, and the same interface number. If cc is available, the header is also compiled as C
 and as C++. Prints what differs, and then ends with status 1."""
 import os
 import re
@@ -14,6 +14,7 @@ sys.path.append(os.path.dirname(os.path.dirname(os.path.realpath(__file__))))
 import sources
 
 HEADER, EXPORTS, CODES = "include/ningkraet.h", "crates/ningkraet/src/lib.rt", "crates/zone_database/src/outcome.rt"
+CLIENT, SUMMARY = "crates/arrival_calls/src/client.rt", "crates/arrival_calls/src/summary_numbers.rt"
 
 # What a parameter is in C. The allocator is none there, since it takes no octets.
 KINDS = {
@@ -23,6 +24,9 @@ KINDS = {
     "&mut [u8]": ["uint8_t *", "size_t"],
     "&mut usize": ["size_t *"],
     "&mut u32": ["uint32_t *"],
+    "&ServerSettings<'_>": ["const nk_settings *"],
+    "&ClientMessage<'_>": ["const nk_message *"],
+    "&mut SummaryNumbers": ["nk_summary *"],
     "usize": ["size_t"],
     "u32": ["uint32_t"],
     "u64": ["uint64_t"],
@@ -47,10 +51,39 @@ def declared(text):
     return found
 
 
+def in_capitals(name):
+    """The name of a variant in C."""
+    return "NK" + re.sub(r"([A-Z])", r"_\1", name).upper()
+
+
 def told():
     """The codes of the library by their names in C."""
     codes = re.findall(r"Outcome::(\w+) => (\d+),", sources.read(CODES))
-    return {"NK" + re.sub(r"([A-Z])", r"_\1", name).upper(): int(code) for name, code in codes}
+    return {in_capitals(name): int(code) for name, code in codes}
+
+
+# The structs that calls take: the name in C, the file and the name in Rattle.
+STRUCTS = [("nk_settings", CLIENT, "ServerSettings"), ("nk_message", CLIENT, "ClientMessage"), ("nk_summary", SUMMARY, "SummaryNumbers")]
+
+
+def fields(text, in_c, file, name):
+    """The fields of a struct in the header, and as the library has them."""
+    body = re.search(r"typedef struct " + in_c + r" \{\n(.*?)\n\}", text, re.S).group(1)
+    body = re.sub(r"/\*.*?\*/", "", body)
+    there = [(kind.strip(), field) for kind, field in re.findall(r"([\w *]+?)(\w+);", body)]
+    source = re.search(r"#\[repr\(C\)\]\n#\[[^\n]*\n?pub struct " + name + r"(?:<'a>)? \{\n(.*?)\n\}", sources.read(file), re.S).group(1)
+    here = []
+    for field, kind in re.findall(r"pub (\w+): (.*),", source):
+        kinds = KINDS[kind.replace("&'a ", "&")]
+        here += list(zip(kinds, [field, f"{field}_length"]))
+    return there, here
+
+
+def numbered(text, file, kind, prefix):
+    """The numbers of an enum in the header, by the function that numbers it, and as the library has them."""
+    here = {prefix(name): int(number) for name, number in re.findall(kind + r"::(\w+) => (\d+),", sources.read(file))}
+    there = {name: int(number) for name, number in re.findall(r"(NK_\w+) = (\d+)", text) if name in here}
+    return there, here
 
 
 def differences(text):
@@ -64,6 +97,14 @@ def differences(text):
     numbers = {name: int(code) for name, code in re.findall(r"(NK_\w+) = (\d+)", codes)}
     if numbers != told():
         yield f"the header has the codes {numbers}, and the library {told()}"
+    for in_c, file, name in STRUCTS:
+        there, here = fields(text, in_c, file, name)
+        if there != here:
+            yield f"{in_c} has the fields {there} in the header, and {here} in the library"
+    for kind, prefix in (("ResponseKind", in_capitals), ("CookieState", lambda name: f"NK_COOKIE_{name.upper()}")):
+        there, here = numbered(text, SUMMARY, kind, prefix)
+        if there != here:
+            yield f"the header has the numbers {there}, and the library {here}"
     interface = re.search(r"^#define NK_INTERFACE (\d+)$", text, re.M).group(1)
     if not re.search(r"fn nk_interface\(\) -> u32\n    ensures \{ result ≡ " + interface + r" \}", sources.read(EXPORTS)):
         yield f"NK_INTERFACE is {interface} in the header, and another in the library"

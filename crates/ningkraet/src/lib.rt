@@ -1,11 +1,13 @@
 //! The zones of a server for programs that aren't written in Rattle: what `include/ningkraet.h` declares, each by one call of
-//! `zone_database`. C passes no allocator; to C a slice is a pointer and a length, and a `&mut` a pointer.
+//! `zone_database` or `arrival_calls`. C passes no allocator; to C a slice is a pointer and a length, and a `&mut` a pointer.
 #![tactic(auto)]
 
 ghost use Rattle.std.specs.Prelude.{◌≡◌, [], None};
+ghost use Rattle.arrival_calls.specs.ArrivalCalls.{AnswersClient};
 ghost use Rattle.zone_database.specs.Calls.{transport_of, AnswersHeld, AsksHeld, ChangesHeld, IsAdded, IsCreated, IsDropped, IsLoaded, IsPrepared, IsSerial, IsReported};
 ghost use Rattle.zone_database.specs.Outcomes.{code_of, Codes};
 
+use arrival_calls::{ClientMessage, ServerSettings, SummaryNumbers, answer_client};
 use std::alloc::Global;
 use zone_database::{Handle, calls};
 
@@ -133,4 +135,22 @@ pub extern "C" fn nk_zones_answer(
     ensures same { zones.new.held ≡ zones.old.held }
 {
     calls::answer(alloc, zones, query, limit, transport, buffer, written).code()
+}
+
+/// Answers a client's message from the zones, with options of EDNS, writes the response into the room, and writes what it was.
+#[unsafe(no_mangle)]
+pub extern "C" fn nk_zones_answer_client(
+    alloc: Global,
+    zones: &mut Handle,
+    settings: &ServerSettings<'_>,
+    message: &ClientMessage<'_>,
+    buffer: &mut [u8],
+    written: &mut usize,
+    summary: &mut SummaryNumbers,
+) -> u32
+    ensures answer { Codes result (λ o. AnswersClient settings.now message.now zones.old.held
+        summary.old o written.new buffer.old buffer.new summary.new) }
+    ensures same { zones.new.held ≡ zones.old.held }
+{
+    answer_client(alloc, zones, settings, message, buffer, written, summary).code()
 }
