@@ -8,6 +8,7 @@
 #include <stdio.h>
 #include <stdlib.h>
 #include <string.h>
+#include <sys/random.h>
 
 enum { WORDS = 4, LINE = 4096 };
 
@@ -111,43 +112,62 @@ static int add_folder(const struct place *place, struct config *config, const ch
     return folder && (*folder = strdup(path)) ? 0 : fault(place, "out of memory");
 }
 
+/* Takes the hexadecimal digits of a secret. */
+static int add_secret(const struct place *place, struct config *config, const char *word) {
+    uint8_t *to = config->secrets + config->settings.secrets_length;
+    for (int i = 0; i < SECRET; i++)
+        if (strspn(word, "0123456789abcdefABCDEF") != 2 * SECRET || word[2 * SECRET] || sscanf(word + 2 * i, "%2hhx", &to[i]) != 1)
+            return fault(place, "a secret has %d hexadecimal digits", 2 * SECRET);
+    config->settings.secrets_length += SECRET;
+    return 0;
+}
+
+#define AT(member) offsetof(struct config, member)
+static const struct directive {
+    const char *name;
+    int least, most;          /* values */
+    enum { LISTEN, ZONE, ZONES, TEXT, NUMBER, SWITCH, QUERY_LOG, PREFIXES, SECRETS } way;
+    size_t to;
+    unsigned from, until;     /* of a number */
+} directives[] = {
+    {"listen", 1, 2, LISTEN, 0, 0, 0}, {"zone", 2, 2, ZONE, 0, 0, 0}, {"zones", 1, 1, ZONES, 0, 0, 0},
+    {"user", 1, 1, TEXT, AT(user), 0, 0}, {"chroot", 1, 1, TEXT, AT(chroot), 0, 0}, {"control", 1, 1, TEXT, AT(control), 0, 0},
+    {"log", 1, 1, TEXT, AT(log), 0, 0}, {"nsid", 1, 1, TEXT, AT(nsid), 0, 0}, {"query-log", 2, 2, QUERY_LOG, 0, 0, 0},
+    {"watch", 1, 1, SWITCH, AT(watch), 0, 0}, {"ready-answers", 1, 1, SWITCH, AT(ready_answers), 0, 0},
+    {"workers", 1, 1, NUMBER, AT(workers), 0, 256}, {"udp-size", 1, 1, NUMBER, AT(udp_size), 512, 1232},
+    {"tcp-connections", 1, 1, NUMBER, AT(tcp_connections), 1, 1000000},
+    {"tcp-client-connections", 1, 1, NUMBER, AT(tcp_client_connections), 1, 1000000}, {"tcp-idle", 1, 1, NUMBER, AT(tcp_idle), 1, 3600},
+    {"rate-limit", 1, 1, NUMBER, AT(rate_limit), 0, 60000}, {"rate-slip", 1, 1, NUMBER, AT(rate_slip), 0, 1000},
+    {"rate-prefixes", 2, 2, PREFIXES, 0, 0, 0}, {"cookies", 1, 1, SWITCH, AT(has_cookies), 0, 0},
+    {"cookies-required", 1, 1, SWITCH, AT(settings.cookies_required), 0, 0}, {"cookie-secret", 1, 2, SECRETS, 0, 0, 0}};
+
 /* Takes a directive with its values. */
 static int take(const struct place *place, struct config *config, char **words, int count) {
-    const char *name = words[0], *value = words[1];
-    static const struct { const char *name; int least, most; } directives[] = {
-        {"listen", 1, 2}, {"zone", 2, 2}, {"zones", 1, 1}, {"workers", 1, 1}, {"user", 1, 1}, {"chroot", 1, 1}, {"control", 1, 1},
-        {"log", 1, 1}, {"query-log", 2, 2}, {"watch", 1, 1}, {"udp-size", 1, 1}, {"tcp-connections", 1, 1},
-        {"tcp-client-connections", 1, 1}, {"tcp-idle", 1, 1}, {"rate-limit", 1, 1}, {"rate-slip", 1, 1}, {"rate-prefixes", 2, 2},
-        {"ready-answers", 1, 1}};
-    size_t at = 0, all = sizeof directives / sizeof *directives;
-    while (at < all && strcmp(directives[at].name, name)) at++;
-    if (at == all) return fault(place, "'%s' isn't a directive", name);
-    if (count - 1 < directives[at].least) return fault(place, "%s needs a value more", name);
-    if (count - 1 > directives[at].most) return fault(place, "%s has a value too many", name);
-    if (!strcmp(name, "listen")) return add_address(place, config, value, count > 2 ? words[2] : NULL);
-    if (!strcmp(name, "zone")) return add_zone(place, config, value, words[2]);
-    if (!strcmp(name, "zones")) return add_folder(place, config, value);
-    if (!strcmp(name, "workers")) return set_number(place, &config->workers, value, 0, 256);
-    if (!strcmp(name, "user")) return set_text(place, &config->user, value);
-    if (!strcmp(name, "chroot")) return set_text(place, &config->chroot, value);
-    if (!strcmp(name, "control")) return set_text(place, &config->control, value);
-    if (!strcmp(name, "log")) return set_text(place, &config->log, value);
-    if (!strcmp(name, "watch")) return set_switch(place, &config->watch, value);
-    if (!strcmp(name, "ready-answers")) return set_switch(place, &config->ready_answers, value);
-    if (!strcmp(name, "udp-size")) return set_number(place, &config->udp_size, value, 512, 1232);
-    if (!strcmp(name, "tcp-connections")) return set_number(place, &config->tcp_connections, value, 1, 1000000);
-    if (!strcmp(name, "tcp-client-connections")) return set_number(place, &config->tcp_client_connections, value, 1, 1000000);
-    if (!strcmp(name, "tcp-idle")) return set_number(place, &config->tcp_idle, value, 1, 3600);
-    if (!strcmp(name, "rate-limit")) return set_number(place, &config->rate_limit, value, 0, 60000);
-    if (!strcmp(name, "rate-slip")) return set_number(place, &config->rate_slip, value, 0, 1000);
-    if (!strcmp(name, "rate-prefixes"))
-        return set_number(place, &config->rate_prefix_v4, value, 1, 32) || set_number(place, &config->rate_prefix_v6, words[2], 1, 64) ? -1 : 0;
-    return set_text(place, &config->query_log, value) || set_number(place, &config->query_log_every, words[2], 1, 1000000000) ? -1 : 0;
+    const struct directive *it = directives, *end = it + sizeof directives / sizeof *it;
+    const char *value = words[1], *second = count > 2 ? words[2] : NULL;
+    while (it < end && strcmp(it->name, words[0])) it++;
+    if (it == end) return fault(place, "'%s' isn't a directive", words[0]);
+    if (count - 1 < it->least) return fault(place, "%s needs a value more", it->name);
+    if (count - 1 > it->most) return fault(place, "%s has a value too many", it->name);
+    void *to = (char *)config + it->to;
+    switch (it->way) {
+    case LISTEN: return add_address(place, config, value, second);
+    case ZONE: return add_zone(place, config, value, second);
+    case ZONES: return add_folder(place, config, value);
+    case TEXT: return set_text(place, to, value);
+    case NUMBER: return set_number(place, to, value, it->from, it->until);
+    case SWITCH: return set_switch(place, to, value);
+    case QUERY_LOG: return set_text(place, &config->query_log, value) || set_number(place, &config->query_log_every, second, 1, 1000000000) ? -1 : 0;
+    case PREFIXES: return set_number(place, &config->rate_prefix_v4, value, 1, 32) || set_number(place, &config->rate_prefix_v6, second, 1, 64) ? -1 : 0;
+    case SECRETS: config->settings.secrets_length = 0; return add_secret(place, config, value) || (second && add_secret(place, config, second)) ? -1 : 0;
+    }
+    return -1;
 }
 
 int config_read(struct config *config, const char *path) {
     *config = (struct config){.udp_size = 1232, .tcp_connections = 1000, .tcp_client_connections = 100, .tcp_idle = 10, .rate_slip = 2,
-                              .rate_prefix_v4 = 24, .rate_prefix_v6 = 56, .watch = 1, .ready_answers = 1};
+                              .rate_prefix_v4 = 24, .rate_prefix_v6 = 56, .watch = 1, .ready_answers = 1, .has_cookies = 1};
+    nk_settings *settings = &config->settings;
     FILE *file = fopen(path, "r");
     if (!file) {
         fprintf(stderr, "%s: %s\n", path, strerror(errno));
@@ -168,6 +188,11 @@ int config_read(struct config *config, const char *path) {
     fclose(file);
     place.line = place.line ? place.line : 1;
     if (!is_bad && !config->zone_count && !config->folder_count) is_bad = fault(&place, "there is neither a zone nor a folder of zones");
+    settings->secrets = config->secrets;
+    if (!config->has_cookies) settings->secrets_length = 0;
+    else if (!settings->secrets_length) settings->secrets_length = getrandom(config->secrets, SECRET, 0) == SECRET ? SECRET : 0;   /* one for this run */
+    settings->nsid = (const uint8_t *)(config->nsid ? config->nsid : "");
+    settings->nsid_length = strlen((const char *)settings->nsid);
     return is_bad;
 }
 
@@ -177,7 +202,7 @@ void config_free(struct config *config) {
         free(config->zones[i].path);
     }
     for (size_t i = 0; i < config->folder_count; i++) free(config->folders[i]);
-    char *texts[] = {config->user, config->chroot, config->control, config->log, config->query_log};
+    char *texts[] = {config->user, config->chroot, config->control, config->log, config->query_log, config->nsid};
     for (size_t i = 0; i < sizeof texts / sizeof *texts; i++) free(texts[i]);
     free(config->listen);
     free(config->zones);

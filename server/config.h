@@ -1,9 +1,11 @@
 /* The configuration of ningkraetd: one file, a directive on each line. */
-#ifndef CONFIG_H
-#define CONFIG_H
+#pragma once
 
+#include <ningkraet.h>
 #include <stddef.h>
 #include <sys/socket.h>
+
+enum { SECRET = 16 };              /* octets of a secret */
 
 struct address {
     struct sockaddr_storage socket;
@@ -21,7 +23,7 @@ struct config {
     struct zone_line *zones;
     char **folders;                /* each file NAME.zone there is the zone NAME */
     size_t listen_count, zone_count, folder_count;
-    char *user, *chroot, *control, *log, *query_log;   /* NULL where there is none */
+    char *user, *chroot, *control, *log, *query_log, *nsid;   /* NULL where there is none */
     unsigned workers;              /* threads that answer; 0: one for each processor */
     unsigned udp_size;             /* octets of a response by UDP, at most */
     unsigned tcp_connections, tcp_client_connections, tcp_idle;   /* in all, of one client, seconds */
@@ -29,6 +31,9 @@ struct config {
     unsigned query_log_every;      /* one query in so many is logged */
     unsigned watch;                /* whether zones are read again when their files change */
     unsigned ready_answers;        /* whether the answers that a zone gives most are kept as octets */
+    unsigned has_cookies;          /* whether cookies are answered */
+    uint8_t secrets[2 * SECRET];   /* those for cookies: the current one, and the one before it if there is one */
+    nk_settings settings;          /* what the library answers by options */
 };
 
 /* Reads a configuration. Returns 0, or -1 once the first fault is printed on standard error, with its file and line. What was read is
@@ -36,5 +41,3 @@ struct config {
 int config_read(struct config *config, const char *path);
 
 void config_free(struct config *config);
-
-#endif

@@ -1,6 +1,5 @@
 /* The commands that ningkraetctl sends over a local socket, a line each. */
-#ifndef CONTROL_H
-#define CONTROL_H
+#pragma once
 
 #include <stddef.h>
 
@@ -11,5 +10,3 @@ int control_listen(const char *path);
 
 /* Takes one connection, carries out its command and answers. Returns 1 where the command is to stop, else 0. */
 int control_take(int listener, struct worker *workers, size_t worker_count);
-
-#endif

@@ -4,24 +4,15 @@
 #include <stdarg.h>
 #include <stdio.h>
 
-const char *const kind_names[KINDS] = {"answer", "referral", "no_data", "name_error", "refused", "failed", "other"};
+const char *const kind_names[KINDS] = {"answer", "referral", "no_data", "name_error", "refused", "failed", "truncated", "other"};
+const char *const cookie_names[COOKIES] = {"absent", "malformed", "unknown", "known"};
 
-enum kind kind_of(const uint8_t *response, size_t length) {
-    if (length < 12 || (response[2] >> 3 & 15) != 0) return OTHER;
-    int is_authoritative = response[2] >> 2 & 1, rcode = response[3] & 15;
-    unsigned answers = response[6] << 8 | response[7], authorities = response[8] << 8 | response[9];
-    if (rcode == 3) return NAME_ERROR;
-    if (rcode == 5) return REFUSED;
-    if (rcode != 0) return FAILED;
-    if (answers) return ANSWER;
-    return authorities && !is_authoritative ? REFERRAL : NO_DATA;
-}
-
-void count_response(struct counters *counters, const uint8_t *response, size_t length, enum kind kind) {
+void count_response(struct counters *counters, size_t length, const nk_summary *summary) {
     count(&counters->octets_out, length);
-    count(&counters->rcodes[response[3] & 15], 1);
-    count(&counters->kinds[kind], 1);
-    count(&counters->truncated, response[2] >> 1 & 1);
+    count(&counters->kinds[summary->kind], 1);
+    if (summary->code < CODES) count(&counters->codes[summary->code], 1);
+    count(&counters->cookies[summary->cookie], 1);
+    count(&counters->truncated, summary->truncated);
 }
 
 /* Text that is put together in a buffer, as much of it as there is room for. */
@@ -44,25 +35,32 @@ static unsigned long long sum(struct counters *const *workers, size_t worker_cou
     return all;
 }
 
-size_t counters_print(char *start, size_t size, struct counters *const *workers, size_t worker_count, int for_prometheus) {
-    struct text text = {start, size, 0};
-#define X(name, words)                                                                                                                       \
-    if (for_prometheus) put(&text, "# HELP ningkraetd_%s_total %s\n# TYPE ningkraetd_%s_total counter\nningkraetd_%s_total ", #name, words, #name, #name); \
-    put(&text, for_prometheus ? "%llu\n" : "%12llu ", sum(workers, worker_count, offsetof(struct counters, name)));                          \
-    if (!for_prometheus) put(&text, "%s\n", words);
+static const struct family {
+    const char *name, *label, *words;
+    size_t offset, count;
+    const char *const *values;     /* of the label, or NULL where they are numbers */
+} families[] = {
+#define X(name, words) {#name, NULL, words, offsetof(struct counters, name), 1, NULL},
     COUNTERS(X)
 #undef X
-    if (for_prometheus) put(&text, "# HELP ningkraetd_responses_total responses by kind\n# TYPE ningkraetd_responses_total counter\n");
-    for (int i = 0; i < KINDS; i++) {
-        unsigned long long all = sum(workers, worker_count, offsetof(struct counters, kinds) + i * sizeof(atomic_ullong));
-        if (for_prometheus) put(&text, "ningkraetd_responses_total{kind=\"%s\"} %llu\n", kind_names[i], all);
-        else put(&text, "%12llu responses of kind %s\n", all, kind_names[i]);
-    }
-    if (for_prometheus) put(&text, "# HELP ningkraetd_rcodes_total responses by RCODE\n# TYPE ningkraetd_rcodes_total counter\n");
-    for (int i = 0; i < 16; i++) {
-        unsigned long long all = sum(workers, worker_count, offsetof(struct counters, rcodes) + i * sizeof(atomic_ullong));
-        if (for_prometheus) put(&text, "ningkraetd_rcodes_total{rcode=\"%d\"} %llu\n", i, all);
-        else if (all) put(&text, "%12llu responses with RCODE %d\n", all, i);
+    {"responses", "kind", "responses of kind", offsetof(struct counters, kinds), KINDS, kind_names},
+    {"rcodes", "rcode", "responses with RCODE", offsetof(struct counters, codes), CODES, NULL},
+    {"cookies", "cookie", "responses to clients whose cookie is", offsetof(struct counters, cookies), COOKIES, cookie_names}};
+
+size_t counters_print(char *start, size_t size, struct counters *const *workers, size_t worker_count, int for_prometheus) {
+    struct text text = {start, size, 0};
+    for (const struct family *it = families; it < families + sizeof families / sizeof *families; it++) {
+        if (for_prometheus) put(&text, "# HELP ningkraetd_%s_total %s\n# TYPE ningkraetd_%s_total counter\n", it->name, it->words, it->name);
+        for (size_t i = 0; i < it->count; i++) {
+            unsigned long long all = sum(workers, worker_count, it->offset + i * sizeof(atomic_ullong));
+            char number[24];
+            snprintf(number, sizeof number, "%zu", i);
+            const char *value = it->values ? it->values[i] : number;
+            if (it->label && for_prometheus) put(&text, "ningkraetd_%s_total{%s=\"%s\"} %llu\n", it->name, it->label, value, all);
+            else if (for_prometheus) put(&text, "ningkraetd_%s_total %llu\n", it->name, all);
+            else if (!it->label) put(&text, "%12llu %s\n", all, it->words);
+            else if (it->values || all) put(&text, "%12llu %s %s\n", all, it->words, value);
+        }
     }
     return text.length;
 }

@@ -1,15 +1,15 @@
-/* What is counted, by each worker for itself; and what kind of answer a response is. */
-#ifndef COUNTERS_H
-#define COUNTERS_H
+/* What is counted, by each worker for itself. */
+#pragma once
 
+#include <ningkraet.h>
 #include <stdatomic.h>
 #include <stddef.h>
 #include <stdint.h>
 
-/* What an answer was, by which it is counted and limited. */
-enum kind { ANSWER, REFERRAL, NO_DATA, NAME_ERROR, REFUSED, FAILED, OTHER, KINDS };
+/* How many kinds of responses there are, codes (up to BADCOOKIE), and states of a cookie. */
+enum { KINDS = NK_OTHER + 1, CODES = 24, COOKIES = NK_COOKIE_KNOWN + 1 };
 
-extern const char *const kind_names[KINDS];
+extern const char *const kind_names[KINDS], *const cookie_names[COOKIES];
 
 #define COUNTERS(X)                                                                                                                          \
     X(udp_queries, "queries by UDP")                                                                                                         \
@@ -31,7 +31,7 @@ struct counters {
 #define X(name, text) atomic_ullong name;
     COUNTERS(X)
 #undef X
-    atomic_ullong rcodes[16], kinds[KINDS];
+    atomic_ullong kinds[KINDS], codes[CODES], cookies[COOKIES];
 };
 
 /* Adds to a counter of which this thread is the only writer. */
@@ -39,13 +39,8 @@ static inline void count(atomic_ullong *counter, unsigned long long by) {
     atomic_store_explicit(counter, atomic_load_explicit(counter, memory_order_relaxed) + by, memory_order_relaxed);
 }
 
-/* What kind of answer a response is, as its header and sections tell. */
-enum kind kind_of(const uint8_t *response, size_t length);
-
-/* Counts a response. */
-void count_response(struct counters *counters, const uint8_t *response, size_t length, enum kind kind);
+/* Counts a response of so many octets. */
+void count_response(struct counters *counters, size_t length, const nk_summary *summary);
 
 /* Writes the sums over these workers, for a reader or in the text form of Prometheus. Returns the length, less than `size`. */
 size_t counters_print(char *text, size_t size, struct counters *const *workers, size_t worker_count, int for_prometheus);
-
-#endif

@@ -48,11 +48,18 @@ static uint64_t hash_of(const uint8_t *octets, size_t length) {
     }
 }
 
+const uint8_t *client_octets(const struct sockaddr *client, size_t *length) {
+    int is_v4 = client->sa_family == AF_INET;
+    *length = is_v4 ? 4 : 16;
+    return is_v4 ? (const uint8_t *)&((const struct sockaddr_in *)client)->sin_addr : ((const struct sockaddr_in6 *)client)->sin6_addr.s6_addr;
+}
+
 /* Writes the first bits of a client's address. Returns how many octets that takes: 5 or 9. */
 static size_t put_prefix(uint8_t *to, const struct sockaddr *client, unsigned bits_v4, unsigned bits_v6) {
-    int is_v4 = client->sa_family == AF_INET;
+    size_t length;
+    const uint8_t *octets = client_octets(client, &length);
+    int is_v4 = length == 4;
     unsigned bits = is_v4 ? bits_v4 : bits_v6;
-    const uint8_t *octets = is_v4 ? (const uint8_t *)&((const struct sockaddr_in *)client)->sin_addr : ((const struct sockaddr_in6 *)client)->sin6_addr.s6_addr;
     *to++ = is_v4 ? 4 : 6;
     for (unsigned i = 0; i < (is_v4 ? 4u : 8u); i++) to[i] = bits >= 8 * (i + 1) ? octets[i] : bits > 8 * i ? octets[i] & 0xff << (8 * (i + 1) - bits) : 0;
     return is_v4 ? 5 : 9;
@@ -66,9 +73,9 @@ int limits_begin(const struct config *given) {
 }
 
 /* The question's name in lower case, of which a name error counts without its first label: names that are made up share what is above them. */
-static size_t put_name(uint8_t *to, const uint8_t *query, size_t length, enum kind kind) {
+static size_t put_name(uint8_t *to, const uint8_t *query, size_t length, uint32_t kind) {
     size_t at = 12, made = 0;
-    if (kind == NAME_ERROR && at < length && query[at] < 64) at += 1 + query[at];
+    if (kind == NK_NAME_ERROR && at < length && query[at] < 64) at += 1 + query[at];
     while (at < length && query[at] && query[at] < 64 && made < 255) {
         uint8_t c = query[at++];
         to[made++] = c >= 'A' && c <= 'Z' ? c + 32 : c;
@@ -76,12 +83,13 @@ static size_t put_name(uint8_t *to, const uint8_t *query, size_t length, enum ki
     return made;
 }
 
-enum verdict limits_take(const struct sockaddr *client, enum kind kind, const uint8_t *query, size_t query_length) {
-    if (!buckets) return SEND;
+enum verdict limits_take(const struct sockaddr *client, const nk_summary *summary, const uint8_t *query, size_t query_length) {
+    if (!buckets || summary->cookie == NK_COOKIE_KNOWN) return SEND;
+    uint32_t kind = summary->kind;
     uint8_t octets[10 + 256];
     size_t length = put_prefix(octets, client, config->rate_prefix_v4, config->rate_prefix_v6);
     octets[length++] = kind;
-    if (kind <= NAME_ERROR) length += put_name(octets + length, query, query_length, kind);
+    if (kind <= NK_NAME_ERROR || kind == NK_TRUNCATED) length += put_name(octets + length, query, query_length, kind);
     struct timespec now;
     clock_gettime(CLOCK_MONOTONIC_COARSE, &now);
     uint64_t hash = hash_of(octets, length), mark = (hash & 0xffffffff00000000) | (uint64_t)(now.tv_sec & 0xffff) << 16;

@@ -1,11 +1,9 @@
 /* How much one client may have: TCP connections at once, and responses a second by UDP. Shared by all workers. */
-#ifndef LIMITS_H
-#define LIMITS_H
+#pragma once
 
 #include <sys/socket.h>
 
 #include "config.h"
-#include "counters.h"
 
 /* Makes the tables. Returns 0, or -1 where there is no memory. */
 int limits_begin(const struct config *config);
@@ -14,8 +12,11 @@ int limits_begin(const struct config *config);
 enum verdict { SEND, CUT, WITHHOLD };
 
 /* Counts a response to a client, by the client's prefix, the kind of answer and the name that was asked for, of which a name error counts
- * without its first label. */
-enum verdict limits_take(const struct sockaddr *client, enum kind kind, const uint8_t *query, size_t query_length);
+ * without its first label. A client with a valid cookie has no limit, since nobody else can have responses sent to it. */
+enum verdict limits_take(const struct sockaddr *client, const nk_summary *summary, const uint8_t *query, size_t query_length);
+
+/* The octets of a client's address, and how many there are: 4 or 16. */
+const uint8_t *client_octets(const struct sockaddr *client, size_t *length);
 
 /* Counts a TCP connection of a client, and tells whether it may have one more: its counter, or NULL. */
 struct tally *limits_enter(const struct sockaddr *client);
@@ -26,5 +27,3 @@ void limits_leave(struct tally *tally);
 int limits_room(void);
 
 void limits_free(void);
-
-#endif

@@ -11,6 +11,8 @@
 #include <time.h>
 #include <unistd.h>
 
+#include "limits.h"
+
 static int to = STDERR_FILENO, queries_to = -1;
 static unsigned sample;        /* set before the workers start */
 static atomic_uint queries;
@@ -22,12 +24,8 @@ static int reopen(int *fd, const char *path, int is_standard) {
         log_line("%s: %s", path, strerror(errno));
         return -1;
     }
-    if (*fd >= 0 && !is_standard) {
-        dup3(opened, *fd, O_CLOEXEC);
-        close(opened);
-    } else {
-        *fd = opened;
-    }
+    if (*fd < 0 || is_standard) *fd = opened;
+    else dup3(opened, *fd, O_CLOEXEC), close(opened);
     return 0;
 }
 
@@ -72,20 +70,19 @@ static size_t put_name(char *text, const uint8_t *query, size_t query_length, si
     return length;
 }
 
-void log_query(const struct sockaddr *client, int transport, const uint8_t *query, size_t query_length, const uint8_t *response,
-               size_t response_length, enum kind kind) {
+void log_query(const struct sockaddr *client, uint32_t transport, const uint8_t *query, size_t query_length, size_t written,
+               const nk_summary *summary) {
     if (!sample || query_length < 17 || atomic_fetch_add_explicit(&queries, 1, memory_order_relaxed) % sample) return;
     char name[5 * 255 + 2], host[INET6_ADDRSTRLEN] = "", line[2048];
-    size_t behind;
+    size_t behind, length_of_address;
     put_name(name, query, query_length, &behind);
     unsigned type = behind + 2 <= query_length ? query[behind] << 8 | query[behind + 1] : 0;
-    const void *octets = client->sa_family == AF_INET ? (const void *)&((const struct sockaddr_in *)client)->sin_addr : &((const struct sockaddr_in6 *)client)->sin6_addr;
-    inet_ntop(client->sa_family, octets, host, sizeof host);
+    inet_ntop(client->sa_family, client_octets(client, &length_of_address), host, sizeof host);
     struct timespec now;
     clock_gettime(CLOCK_REALTIME, &now);
     int length = snprintf(line, sizeof line,
-                          "{\"time\":%lld.%03ld,\"client\":\"%s\",\"transport\":\"%s\",\"name\":\"%s\",\"type\":%u,\"kind\":\"%s\",\"rcode\":%d,\"size\":%zu,\"truncated\":%s}\n",
-                          (long long)now.tv_sec, now.tv_nsec / 1000000, host, transport ? "tcp" : "udp", name, type, kind_names[kind],
-                          response_length > 3 ? response[3] & 15 : -1, response_length, response_length > 2 && response[2] & 2 ? "true" : "false");
+                          "{\"time\":%lld.%03ld,\"client\":\"%s\",\"transport\":\"%s\",\"name\":\"%s\",\"type\":%u,\"kind\":\"%s\",\"rcode\":%u,\"size\":%zu,\"truncated\":%s,\"cookie\":\"%s\"}\n",
+                          (long long)now.tv_sec, now.tv_nsec / 1000000, host, transport == NK_TCP ? "tcp" : "udp", name, type, kind_names[summary->kind],
+                          summary->code, written, summary->truncated ? "true" : "false", cookie_names[summary->cookie]);
     if (write(queries_to, line, length) < 0) return;
 }

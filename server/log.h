@@ -1,6 +1,5 @@
 /* What ningkraetd tells an operator: lines on standard error or in a file, and sampled queries as JSON in another. */
-#ifndef LOG_H
-#define LOG_H
+#pragma once
 
 #include <sys/socket.h>
 
@@ -13,7 +12,5 @@ int log_open(const char *path, const char *queries, unsigned every);
 void log_line(const char *format, ...) __attribute__((format(printf, 1, 2)));
 
 /* Counts a query, and logs it where it is the next of its sample: a line of JSON with the moment, client, transport, question and outcome. */
-void log_query(const struct sockaddr *client, int transport, const uint8_t *query, size_t query_length, const uint8_t *response,
-               size_t response_length, enum kind kind);
-
-#endif
+void log_query(const struct sockaddr *client, uint32_t transport, const uint8_t *query, size_t query_length, size_t written,
+               const nk_summary *summary);

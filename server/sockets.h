@@ -1,6 +1,5 @@
 /* The sockets at which queries come. */
-#ifndef SOCKETS_H
-#define SOCKETS_H
+#pragma once
 
 #include <stddef.h>
 
@@ -16,5 +15,3 @@ int sockets_inherited(int *sockets, size_t most);
 
 /* Tells the service manager something (systemd's NOTIFY_SOCKET), where it asked for that. */
 void sockets_notify(const char *state);
-
-#endif

@@ -24,8 +24,7 @@ enum {
 
 struct connection {
     struct source source;
-    struct connection *next, *previous;
-    struct connection *next_busy;
+    TAILQ_ENTRY(connection) at, at_busy;
     struct queue *list;
     struct tally *tally;
     struct sockaddr_storage client;
@@ -36,40 +35,25 @@ struct connection {
     size_t size, have, left, sent;
 };
 
-static void leave(struct connection *c) {
-    *(c->previous ? &c->previous->next : &c->list->first) = c->next;
-    *(c->next ? &c->next->previous : &c->list->last) = c->previous;
-}
-
 static void enter(struct connection *c, struct queue *list) {
     c->list = list;
-    c->next = NULL;
-    c->previous = list->last;
-    *(list->last ? &list->last->next : &list->first) = c;
-    list->last = c;
+    TAILQ_INSERT_TAIL(list, c, at);
 }
 
 /* Puts a connection behind those that wait to be answered. */
 static void wait_busy(struct worker *worker, struct connection *c) {
-    if (c->is_busy) return;
+    if (!c->is_busy) TAILQ_INSERT_TAIL(&worker->busy, c, at_busy);
     c->is_busy = 1;
-    c->next_busy = NULL;
-    *(worker->busy.last ? &worker->busy.last->next_busy : &worker->busy.first) = c;
-    worker->busy.last = c;
 }
 
 static void leave_busy(struct worker *worker, struct connection *c) {
-    if (!c->is_busy) return;
-    struct connection *before = NULL, *at = worker->busy.first;
-    for (; at != c; at = at->next_busy) before = at;
-    *(before ? &before->next_busy : &worker->busy.first) = c->next_busy;
-    if (worker->busy.last == c) worker->busy.last = before;
+    if (c->is_busy) TAILQ_REMOVE(&worker->busy, c, at_busy);
     c->is_busy = 0;
 }
 
 static void close_connection(struct worker *worker, struct connection *c) {
     leave_busy(worker, c);
-    leave(c);
+    TAILQ_REMOVE(c->list, c, at);
     limits_leave(c->tally);
     close(c->source.fd);
     free(c->in);
@@ -80,7 +64,8 @@ static void close_connection(struct worker *worker, struct connection *c) {
 /* Makes room for a connection: closes another, the one that has been silent for longest, or else the one whose last query is the oldest;
  * and that first where the silent ones have come within GRACE, and it has asked nothing for as long. */
 static int evict(struct worker *worker, const struct connection *newest) {
-    struct connection *silent = worker->silent.first == newest ? NULL : worker->silent.first, *asking = worker->asking.first;
+    struct connection *silent = TAILQ_FIRST(&worker->silent), *asking = TAILQ_FIRST(&worker->asking);
+    if (silent == newest) silent = NULL;
     uint64_t before = microseconds() - GRACE;
     struct connection *c = silent && (!asking || silent->moved < before || asking->moved >= before) ? silent : asking;
     if (!c) return 0;
@@ -138,22 +123,20 @@ static int has_frame(const struct connection *c) { return c->have >= 2 && c->hav
  * connection goes on. */
 static int answer_frames(struct worker *worker, struct connection *c) {
     static _Thread_local uint8_t out[TURN + FRAME];
+    const struct sockaddr *client = (void *)&c->client;
     size_t at = 0, made = 0, written;
+    nk_summary summary;
     time_t now = time(NULL);
     for (uint64_t until = microseconds() + SLICE; made < TURN && c->have - at >= 2 && (!at || microseconds() < until);) {
         size_t length = c->in[at] << 8 | c->in[at + 1];
         if (c->have - at - 2 < length) break;
         const uint8_t *query = c->in + at + 2;
-        uint32_t code = nk_zones_answer(&worker->zones, now, query, length, 65535, NK_TCP, out + made + 2, 65535, &written);
+        uint32_t code = answer_message(worker, client, NK_TCP, now, query, length, out + made + 2, 65535, &written, &summary);
         at += 2 + length;
-        count(&worker->counters.tcp_queries, 1);
-        count(&worker->counters.octets_in, length);
-        if (code != NK_DONE) count(code == NK_IGNORED ? &worker->counters.ignored : &worker->counters.no_memory, 1);
         if (code == NK_IGNORED) continue;
         if (code != NK_DONE) return 0;
-        enum kind kind = kind_of(out + made + 2, written);
-        count_response(&worker->counters, out + made + 2, written, kind);
-        log_query((struct sockaddr *)&c->client, 1, query, length, out + made + 2, written, kind);
+        count_response(&worker->counters, written, &summary);
+        log_query(client, NK_TCP, query, length, written, &summary);
         out[made] = written >> 8;
         out[made + 1] = written;
         made += 2 + written;
@@ -161,7 +144,7 @@ static int answer_frames(struct worker *worker, struct connection *c) {
     memmove(c->in, c->in + at, c->have -= at);
     if (made) {   /* messages without an answer, such as those of no octets, hold no connection */
         c->moved = microseconds();
-        leave(c);
+        TAILQ_REMOVE(c->list, c, at);
         enter(c, &worker->asking);
     }
     ssize_t sent = made ? send(c->source.fd, out, made, MSG_DONTWAIT | MSG_NOSIGNAL) : 0;
@@ -224,7 +207,7 @@ void tcp_event(struct worker *worker, struct source *source, uint32_t events) {
 
 void tcp_answer(struct worker *worker, uint64_t began) {
     do {
-        struct connection *c = worker->busy.first;
+        struct connection *c = TAILQ_FIRST(&worker->busy);
         if (!c) return;
         leave_busy(worker, c);
         go_on(worker, c, answer_frames(worker, c));
@@ -234,8 +217,8 @@ void tcp_answer(struct worker *worker, uint64_t began) {
 void tcp_close_idle(struct worker *worker) {
     uint64_t now = microseconds(), most = worker->config->tcp_idle * 1000000ull;
     for (int i = 0; i < 2; i++)
-        for (struct connection *c = (i ? &worker->asking : &worker->silent)->first, *next; c; c = next) {
-            next = c->next;
+        for (struct connection *c = TAILQ_FIRST(i ? &worker->asking : &worker->silent), *next; c; c = next) {
+            next = TAILQ_NEXT(c, at);
             if (c->is_busy || c->moved + most >= now) continue;
             count(&worker->counters.tcp_idle, 1);
             close_connection(worker, c);
@@ -243,12 +226,12 @@ void tcp_close_idle(struct worker *worker) {
 }
 
 void tcp_close_all(struct worker *worker) {
-    while (worker->silent.first) close_connection(worker, worker->silent.first);
-    while (worker->asking.first) close_connection(worker, worker->asking.first);
+    for (struct connection *c; (c = TAILQ_FIRST(&worker->silent)) || (c = TAILQ_FIRST(&worker->asking));) close_connection(worker, c);
 }
 
 int tcp_has_unsent(const struct worker *worker) {
-    for (const struct connection *c = worker->asking.first; c; c = c->next)
+    const struct connection *c;
+    TAILQ_FOREACH(c, &worker->asking, at)
         if (c->left || c->is_busy) return 1;
     return 0;
 }

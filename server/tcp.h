@@ -1,6 +1,5 @@
 /* Queries by TCP. */
-#ifndef TCP_H
-#define TCP_H
+#pragma once
 
 #include "worker.h"
 
@@ -19,5 +18,3 @@ void tcp_close_all(struct worker *worker);
 
 /* Whether a response isn't sent whole yet. */
 int tcp_has_unsent(const struct worker *worker);
-
-#endif

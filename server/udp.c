@@ -76,27 +76,22 @@ static size_t cut(uint8_t *response, const uint8_t *query, size_t query_length) 
 static size_t answer(struct worker *worker, struct udp *udp, int at, uint8_t *response, time_t now) {
     struct mmsghdr *read = &udp->read[at];
     struct sockaddr *client = (void *)&udp->clients[at];
-    size_t length = read->msg_len, written;
-    count(&worker->counters.udp_queries, 1);
-    count(&worker->counters.octets_in, length);
-    uint32_t code = read->msg_hdr.msg_flags & MSG_TRUNC ? (uint32_t)NK_IGNORED
-                  : nk_zones_answer(&worker->zones, now, udp->octets[at], length, worker->config->udp_size, NK_UDP, response, sizeof udp->responses[0], &written);
-    if (code != NK_DONE) {
-        count(code == NK_IGNORED ? &worker->counters.ignored : &worker->counters.no_memory, 1);
-        return 0;
-    }
-    enum kind kind = kind_of(response, written);
-    enum verdict verdict = limits_take(client, kind, udp->octets[at], length);
+    const uint8_t *query = udp->octets[at];
+    size_t length = read->msg_hdr.msg_flags & MSG_TRUNC ? 0 : read->msg_len, written;
+    nk_summary summary;
+    if (answer_message(worker, client, NK_UDP, now, query, length, response, sizeof udp->responses[0], &written, &summary) != NK_DONE) return 0;
+    enum verdict verdict = limits_take(client, &summary, query, length);
     if (verdict == WITHHOLD) {
         count(&worker->counters.limited, 1);
         return 0;
     }
     if (verdict == CUT) {
         count(&worker->counters.slipped, 1);
-        written = cut(response, udp->octets[at], length);
+        written = cut(response, query, length);
+        summary.truncated = 1;
     }
-    count_response(&worker->counters, response, written, kind);
-    log_query(client, 0, udp->octets[at], length, response, written, kind);
+    count_response(&worker->counters, written, &summary);
+    log_query(client, NK_UDP, query, length, written, &summary);
     return written;
 }
 

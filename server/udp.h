@@ -1,6 +1,5 @@
 /* Queries by UDP. */
-#ifndef UDP_H
-#define UDP_H
+#pragma once
 
 #include "worker.h"
 
@@ -14,5 +13,3 @@ void udp_answer(struct worker *worker, struct udp *udp, size_t at);
 
 /* Whether datagrams that were read wait for their answers. */
 int udp_waits(const struct udp *udp, size_t at);
-
-#endif

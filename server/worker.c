@@ -35,6 +35,9 @@ int worker_watch(struct worker *worker, struct source *source, uint32_t events, 
 
 int worker_begin(struct worker *worker, const struct config *config, const int *sockets, size_t address_count) {
     *worker = (struct worker){.config = config, .zones = NK_ZONES_NONE, .seen = -1ul, .address_count = address_count, .epoll = epoll_create1(EPOLL_CLOEXEC)};
+    TAILQ_INIT(&worker->silent);
+    TAILQ_INIT(&worker->asking);
+    TAILQ_INIT(&worker->busy);
     worker->spare = dup(worker->epoll);
     worker->udp = udp_new(sockets, address_count);
     worker->listeners = calloc(address_count, sizeof *worker->listeners);
@@ -76,7 +79,7 @@ static void take_turn(struct worker *worker, struct epoll_event *events, int rea
 static int has_more(const struct worker *worker) {
     for (size_t at = 0; at < worker->address_count; at++)
         if (udp_waits(worker->udp, at)) return 1;
-    return worker->busy.first != NULL;
+    return !TAILQ_EMPTY(&worker->busy);
 }
 
 static void *run(void *given) {

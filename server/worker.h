@@ -1,10 +1,11 @@
 /* A thread that answers queries by UDP and TCP, from a copy of the zones. */
-#ifndef WORKER_H
-#define WORKER_H
+#pragma once
 
 #include <ningkraet.h>
 #include <pthread.h>
 #include <stdint.h>
+#include <sys/queue.h>
+#include <time.h>
 
 #include "config.h"
 #include "counters.h"
@@ -15,12 +16,7 @@ struct source {
     int fd;
 };
 
-struct connection;
-
-/* A list of connections, the one that moved last at its end. */
-struct queue {
-    struct connection *first, *last;
-};
+TAILQ_HEAD(queue, connection);   /* a list of connections, the one that moved last at its end */
 
 struct worker {
     pthread_t thread;
@@ -51,7 +47,10 @@ int worker_start(struct worker *worker);
 void workers_stop(void);
 void worker_free(struct worker *worker);
 
+/* Answers a client's message into a buffer, and counts it. Returns a code of the library: after NK_DONE `written` is how long the response
+ * is, and `summary` what it was. */
+uint32_t answer_message(struct worker *worker, const struct sockaddr *client, uint32_t transport, time_t now, const uint8_t *query,
+                        size_t query_length, uint8_t *response, size_t size, size_t *written, nk_summary *summary);
+
 /* A file descriptor whose events come with this source. Returns 0 or -1. */
 int worker_watch(struct worker *worker, struct source *source, uint32_t events, int is_new);
-
-#endif

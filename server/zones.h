@@ -1,6 +1,5 @@
 /* The zones that are served: loaded from files by one thread, and handed to the workers as copies. */
-#ifndef ZONES_H
-#define ZONES_H
+#pragma once
 
 #include <ningkraet.h>
 #include <stddef.h>
@@ -31,5 +30,3 @@ void zones_folders(void (*take)(const char *path));
 void zones_take(nk_zones *own, unsigned long *seen);
 
 void zones_free(void);
-
-#endif

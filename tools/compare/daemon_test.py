@@ -44,6 +44,8 @@ FAULTS = {
     "color red\n": ":1: 'color' isn't a directive",
     'zones "/tmp\n': ":1: a quote isn't closed",
     "watch maybe\n": ":1: 'maybe' is neither on nor off",
+    "cookie-secret 00112233445566778899aabbccddeefg\n": ":1: a secret has 32 hexadecimal digits",
+    "cookie-secret 00112233445566778899aabbccddeeff 00\n": ":1: a secret has 32 hexadecimal digits",
     "listen 127.0.0.1 5300\n": ":1: there is neither a zone nor a folder of zones",
     "zone a b c d e\n": ":1: zone has too many values",
 }
