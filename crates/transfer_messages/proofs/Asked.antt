@@ -1,5 +1,5 @@
 -- What a message is found to be by what it was read as
-use Rattle.std.proofs.Common.{◌≡◌, ℕ, Bool, true, false, List, refl, sym, subst}
+use Rattle.std.proofs.Common.{◌≡◌, ℕ, Bool, List, refl, sym, subst}
 use Rattle.std.specs.Prelude.{Option, Some, None, Result, Ok, Err}
 use Rattle.std.specs.Bool.{MatchBool}
 use Rattle.message_reading.specs.declared.error.ReadError.{ReadError}
@@ -9,7 +9,6 @@ use Rattle.message_reading.specs.Queries.{RefusesQuery}
 use Rattle.message_tsig.specs.declared.key.Key.{Key}
 use Rattle.message_tsig.specs.declared.tsig.Tsig.{Tsig}
 use Rattle.zone_server.specs.declared.transport.Transport.{Transport}
-use Rattle.zone_server.specs.Transfers.{asks_for_transfer}
 use Rattle.transfer_messages.specs.declared.opening.Opened.{Opened}
 use Rattle.transfer_messages.specs.declared.opening.Opened.TheVariants as opened
 use Rattle.transfer_messages.specs.Opening.{IsAsked, IsOther, IsSigned, IsSignedRequest, IsUnsignedRequest, OpensSigned, OpensUnsigned}

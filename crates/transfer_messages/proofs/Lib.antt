@@ -4,3 +4,4 @@ pub mod Tails
 pub mod Sent
 pub mod Fits
 pub mod Asked
+pub mod KeysAsked

@@ -1,6 +1,6 @@
 -- A message of the first of the records that were gathered
-use Rattle.std.proofs.Common.{◌≡◌, ◌⊎◌, inl, inr, ℕ, ◌+◌, ◌<◌, ◌≤◌, List, [], ◌∷◌, ◌++◌, length, drop, take, map, refl, sym, ap, subst, ◌∙◌, append_assoc, append-nil, arith}
-use Rattle.std.specs.Prelude.{◌≢◌, IsErrAnd, Option, Result, Ok, Err}
+use Rattle.std.proofs.Common.{◌≡◌, inl, inr, ℕ, ◌+◌, ◌<◌, ◌≤◌, List, [], ◌∷◌, ◌++◌, length, drop, take, map, refl, sym, ap, subst, ◌∙◌, append_assoc, arith}
+use Rattle.std.specs.Prelude.{IsErrAnd, Option, Result, Ok, Err}
 use Rattle.std.proofs.lemmas.List.{length-take-le, take-append-drop, take-append-le, take-map}
 use Rattle.zone_proto.specs.declared.record.Record.{Record}
 use Rattle.message_writing.specs.declared.response.Group.{Group}
@@ -11,7 +11,7 @@ use Rattle.transfer_messages.specs.declared.place.Place.{Place}
 use Rattle.transfer_messages.specs.declared.transfer.TransferFault.{TransferFault}
 use Rattle.transfer_messages.specs.declared.transfer.TransferFault.TheVariants as faults
 use Rattle.transfer_messages.specs.Gathering.{Gathers}
-use Rattle.transfer_messages.specs.Messages.{Goes, HasTooLong, HasUnsendable, IsMessageOf, IsNext, IsTransferMessage, Transfer, WritesMessage, left_of}
+use Rattle.transfer_messages.specs.Messages.{Goes, HasTooLong, HasUnsendable, IsMessageOf, IsNext, Transfer, WritesMessage, left_of}
 use Rattle.transfer_messages.specs.Transfers.{one_by_one}
 use Rattle.transfer_messages.proofs.Gathered.{grown}
 use Rattle.transfer_messages.proofs.Lists.{no_elements}

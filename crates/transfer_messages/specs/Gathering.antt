@@ -1,5 +1,5 @@
 -- Records that are gathered for a message
-use Rattle.std.specs.Prelude.{◌≡◌, ℕ, ◌<◌, ◌≤◌, List, [], ◌++◌, length, map}
+use Rattle.std.specs.Prelude.{◌≡◌, ◌<◌, ◌≤◌, List, [], ◌++◌, length, map}
 use Rattle.zone_proto.specs.declared.record.Record.{Record}
 use Rattle.message_writing.specs.declared.response.Group.{Group}
 use Rattle.message_writing.specs.Responses.{records_of}

@@ -7,3 +7,4 @@ pub mod Seals
 pub mod Sending
 pub mod Opening
 pub mod Beginning
+pub mod TransferLaws

@@ -1,5 +1,5 @@
 -- Messages that may ask for a zone, or be signed
-use Rattle.std.specs.Prelude.{◌≡◌, ℕ, ◌%◌, Bool, true, false, List, Option, Some, None, option_copied, Result, Ok, Err}
+use Rattle.std.specs.Prelude.{◌≡◌, ℕ, ◌%◌, true, false, List, Option, Some, None, option_copied, Result, Ok, Err}
 use Rattle.std.specs.Bool.{MatchBool}
 use Rattle.message_reading.specs.declared.error.ReadError.{ReadError}
 use Rattle.message_reading.specs.declared.header.Header.{Header}
@@ -8,7 +8,7 @@ use Rattle.message_reading.specs.Headers.{header_of}
 use Rattle.message_reading.specs.Queries.{query_of}
 use Rattle.message_tsig.specs.declared.key.Key.{Key}
 use Rattle.message_tsig.specs.declared.tsig.Tsig.{Tsig}
-use Rattle.message_tsig.specs.Checking.{Checked, unsigned, malformed, refused, signed, checked_of}
+use Rattle.message_tsig.specs.Checking.{Checked, IsAuthentic, unsigned, malformed, refused, signed, checked_of}
 use Rattle.message_tsig.specs.Signing.{refused_text}
 use Rattle.zone_server.specs.declared.transport.Transport.{Transport}
 use Rattle.zone_server.specs.BareHeaders.{IsBareHeader}
@@ -84,6 +84,12 @@ OpensBy now t message (signed tsig k m) o octets = OpensSigned t tsig k m (query
 -- by the keys of a server at a moment
 abbrev pub Opens : List Key → ℕ → Transport → List ℕ → Opened → List ℕ → Type 0
 Opens keys now t message o octets = OpensBy now t message (checked_of keys now message) o octets
+
+-- A request for a transfer that is under a key was signed with it: its TSIG is found authentic (RFC 8945 section 5.2).
+abbrev pub IsAuthenticRequest : List Key → ℕ → List ℕ → Opened → Type 0
+IsAuthenticRequest keys now message (opened.Transfer r) =
+    (k : Key) → option_copied r.key ≡ Some k → (tsig : Tsig) × IsAuthentic keys now message tsig k r.message.items
+IsAuthenticRequest keys now message _ = Unit {0}
 
 -- ---- on the way
 

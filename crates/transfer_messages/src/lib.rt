@@ -11,6 +11,7 @@ mod ahead;
 mod beginning;
 mod coming;
 mod grants;
+pub mod laws;
 mod open_transfer;
 mod opening;
 mod place;

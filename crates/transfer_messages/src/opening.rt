@@ -4,7 +4,7 @@ ghost use Rattle.message_reading.specs.Headers.{header_of};
 ghost use Rattle.message_reading.specs.Queries.{query_of};
 ghost use Rattle.message_tsig.specs.Checking.{checked_kept};
 ghost use Rattle.message_tsig.specs.Signing.{refused_text};
-ghost use Rattle.transfer_messages.specs.Opening.{four_bits, IsAsked, Opens, OpensBy, OpensHeader, OpensRefused, OpensSigned, OpensUnsigned};
+ghost use Rattle.transfer_messages.specs.Opening.{four_bits, IsAsked, IsAuthenticRequest, Opens, OpensBy, OpensHeader, OpensRefused, OpensSigned, OpensUnsigned};
 
 use crate::sealing::Sealing;
 use message_reading::{Header, Query, ReadError, read_header, read_query};
@@ -54,8 +54,9 @@ pub fn open<'k>(
     message: &[u8],
     out: &mut Vec<u8>,
 ) -> Result<Opened<'k>, AllocError>
-    ensures { IfOk result
+    ensures opens { IfOk result
         (λ opened. Opens keys.now now transport message.now opened out.new.items) }
+    ensures authentic { IfOk result (IsAuthenticRequest keys.now now message.now) }
 {
     match check_request(alloc, keys, now, message) {
         Ok(checked) => open_checked(alloc, now, transport, message, checked, out),

@@ -1,4 +1,4 @@
-use Rattle.std.proofs.Common.{◌≡◌, ◌+◌, ◌≤◌, ap, length, arith}
+use Rattle.std.proofs.Common.{◌≡◌, ◌+◌, ap, length, arith}
 use Rattle.message_writing.specs.Responses.{records_of}
 use Rattle.transfer_messages.specs.Transfers.{records_together, soa_alone}
 use Rattle.transfer_messages.proofs.Lists.{both_over}

@@ -1,4 +1,4 @@
-use Rattle.std.proofs.Common.{◌≡◌, ℕ, List, inl, sym, ap, subst, ◌∙◌}
+use Rattle.std.proofs.Common.{◌≡◌, ℕ, inl, sym, ap, subst, ◌∙◌}
 use Rattle.zone_response.specs.Responses.{bare}
 use Rattle.zone_server.specs.declared.transfer_reply.TransferReply.{TransferReply}
 use Rattle.zone_server.specs.Answers.{GoesOut, IsSent}

@@ -1,8 +1,7 @@
 use Rattle.std.proofs.Common.{◌++◌, drop, sym, ap, ◌∙◌}
-use Rattle.std.specs.Prelude.{Some}
 use Rattle.zone_map.specs.Zones.{Sets}
 use Rattle.message_writing.specs.Responses.{records_of}
-use Rattle.transfer_messages.specs.Transfers.{ahead_of, left_at, records_together, sets_records, soa_alone, zone_records}
+use Rattle.transfer_messages.specs.Transfers.{left_at, records_together, sets_records, soa_alone, zone_records}
 use Rattle.transfer_messages.proofs.Gathered.{gathered_opening, in_place}
 use Rattle.transfer_messages.proofs.coming.coming.Goals as goal
 use Rattle.transfer_messages.proofs.coming.coming.Goals.{in-Opening+in_ok-skip-in-Opening+in_ok-push_sets-in-Opening, in-Set+in_ok-push_sets-in-Set, in-Closing+in_ok-push_group-in-Closing}

@@ -1,4 +1,4 @@
-use Rattle.std.proofs.Common.{ℕ, ◌<◌, refl, arith}
+use Rattle.std.proofs.Common.{◌<◌, refl, arith}
 use Rattle.transfer_messages.specs.Messages.{left_of, transfer_of}
 use Rattle.transfer_messages.proofs.Lists.{none_there, some_there}
 use Rattle.transfer_messages.proofs.Sent.{next_sent, none_left, not_written, raised, too_long_left}
