@@ -7,6 +7,7 @@ left out, and a line says so. Not part of the gate.
 
 What zone_check prints for a file has to be what named-compilezone prints for it, line by line once both are sorted, except for the
 spelling that NAMES and the lists after it describe; and when named-compilezone reads it, it has to give the same as the file itself.
+So does each line of data of record_types.txt, but for those for which it says why they aren't read here.
 Files with a fault have to be rejected by zone_check and by the checkers of BIND, NSD and Knot, except for a list of those that one of
 them accepts. The tools are Debian's packages bind9-utils, ldnsutils, nsd, knot and knot-dnssecutils. The status is 1 if anything differs.
 """
@@ -201,6 +202,33 @@ def compare(program, path, what):
     print(f"{what}: {len(one)} records are the same")
 
 
+# ---- types
+
+def compare_types(program, folder):
+    """What is read of each spelling of the data of each type, and what of it as it is printed."""
+    with open(os.path.join(os.path.dirname(os.path.realpath(__file__)), "record_types.txt"), encoding="ascii") as it:
+        lines = [line.rstrip("\n") for line in it if not line.startswith("#")]
+    wrong, same = [], 0
+    for line in lines:
+        data, _, reason = line.partition(" # ")
+        path, text = f"{folder}/type", f"{folder}/type.printed"
+        owner = "@" if data.startswith("SOA ") else "x"
+        write(path, f"{HEAD.replace('@ SOA ns host 1 2 3 4 5', '') if owner == '@' else HEAD}{owner} 60 {data}\n")
+        wanted = compiled(path)
+        status, out, err = run(program, "--print", path, ORIGIN)
+        if reason:
+            wrong += [] if status == 1 else [f"{data}: is read, and stands in the list as one that isn't"]
+        elif status:
+            wrong.append(f"{data}: {err.strip()}")
+        elif compiled(write(text, out)) != wanted:
+            wrong.append(f"{data}: {out.splitlines()[-1]}")
+        else:
+            same += 1
+    if wrong:
+        raise Failed("\n".join(wrong))
+    print(f"{same} spellings of data are read and printed alike, and {len(lines) - same} aren't read here")
+
+
 # ---- zones
 
 def random_label(rolls):
@@ -328,7 +356,7 @@ def main(words):
         rolls = random.Random(seed)
         zones = {"the written zone": WRITTEN, "a zone of 2000 delegations": root_shaped(2000)}
         zones.update({f"random zone {i}": random_zone(rolls, 300) for i in range(20)})
-        tasks = [(compare_faults, program, folder)]
+        tasks = [(compare_faults, program, folder), (compare_types, program, folder)]
         for i, (what, text) in enumerate(zones.items()):
             path = write(f"{folder}/zone{i}", text)
             tasks.append((compare, program, path, what))
