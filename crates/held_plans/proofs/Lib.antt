@@ -1,0 +1,4 @@
+pub mod Copying
+pub mod KeyLists
+pub mod Signable
+pub mod Finished

@@ -1,0 +1,70 @@
+//! Copies of the sets of a zone.
+ghost use Rattle.std.specs.Prelude.{◌≡◌, ◌&&◌, not, IfOk, IsOkUnless, OnOk};
+ghost use Rattle.zone_map.specs.Zones.{put, IsStoredAt};
+ghost use Rattle.held_plans.specs.Copies.{copied, is_made, unsigned};
+
+use std::alloc::Global;
+use zone_map::RecordMap;
+use zone_proto::{ProtoError, RecordSet, RecordType, RrKey};
+
+/// The sets of a zone without those that are made anew where it is signed: signatures, denials and keys. Its only error is `Memory`.
+pub(crate) fn unsigned(alloc: Global, records: &RecordMap) -> Result<RecordMap, ProtoError>
+    ensures ok { IfOk result (λ made. made ≡ unsigned records.now) }
+    ensures err { IsOkUnless result ProtoError.Memory }
+{
+    copied(alloc, records, true)
+}
+
+/// The same sets once more. Its only error is `Memory`.
+#[tactic(auto, using(crate::proofs::Copying::all_copied))]
+pub(crate) fn copy_of(alloc: Global, records: &RecordMap) -> Result<RecordMap, ProtoError>
+    ensures ok { IfOk result (λ made. made ≡ records.now) }
+    ensures err { IsOkUnless result ProtoError.Memory }
+{
+    copied(alloc, records, false)
+}
+
+/// Copies of the sets, without those that are made anew if the zone is to be signed.
+fn copied(alloc: Global, records: &RecordMap, anew: bool) -> Result<RecordMap, ProtoError>
+    ensures ok { IfOk result (λ made. made ≡ copied anew records.now) }
+    ensures err { IsOkUnless result ProtoError.Memory }
+{
+    let mut made = RecordMap::new(alloc);
+    for (key, set) in records.iter() {
+        if is_copied(anew, key.record_type) {
+            put_copy(&mut made, key, set)?;
+        }
+    }
+    Ok(made)
+}
+
+/// Whether sets of a type are copied.
+fn is_copied(anew: bool, record_type: RecordType) -> bool
+    ensures { result ≡ not (anew && is_made record_type.0) }
+{
+    !(anew && is_made(record_type))
+}
+
+/// Whether sets of a type are made anew where a zone is signed.
+fn is_made(record_type: RecordType) -> bool
+    ensures { result ≡ is_made record_type.0 }
+{
+    record_type == RecordType::RRSIG
+        || record_type == RecordType::NSEC
+        || record_type == RecordType::NSEC3
+        || record_type == RecordType::NSEC3PARAM
+        || record_type == RecordType::DNSKEY
+}
+
+/// Stores a copy of a set under its key.
+fn put_copy(sets: &mut RecordMap, key: &RrKey, set: &RecordSet) -> Result<(), ProtoError>
+    requires { IsStoredAt key.now.name key.now.record_type.0 set.now }
+    ensures ok { OnOk result
+        (sets.new ≡ put sets.old key.now.name key.now.record_type.0 set.now) }
+    ensures err { IsOkUnless result ProtoError.Memory }
+{
+    match sets.put(key.clone()?, set.clone()?) {
+        Ok(_) => Ok(()),
+        Err(_) => Err(ProtoError::Memory),
+    }
+}
