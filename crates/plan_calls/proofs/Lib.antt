@@ -1,0 +1,5 @@
+pub mod CallFacts
+pub mod Handles
+pub mod RawBoxes
+pub mod Steps
+pub mod Walking

@@ -1,0 +1,7 @@
+pub mod Holding
+pub mod Signings
+pub mod Outcomes
+pub mod Beginning
+pub mod Asking
+pub mod Finishing
+pub mod Calls
