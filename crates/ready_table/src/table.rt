@@ -7,13 +7,13 @@ ghost use Rattle.zone_server.specs.Limits.{limit_for};
 ghost use Rattle.ready_answers.specs.Again.{said_by};
 ghost use Rattle.ready_table.specs.Ready.{octets_at, question_at, AreReady, IsFound, IsQuestionText, IsReady, IsReadyAt};
 
-use crate::limits::{is_same, limit_for, said_by};
+use crate::limits::{is_same, said_by};
 use crate::questions::{HEADER, hint_of};
 use message_reading::Query;
 use ready_answers::put_again;
 use std::alloc::{AllocError, Global};
 use zone_proto::RecordType;
-use zone_server::Transport;
+use zone_server::{Transport, limit_for};
 
 /// How many slots are looked at for a query.
 const MOST_SLOTS: usize = 16;
