@@ -1,0 +1,43 @@
+//! Updates zones, and asks tables of rules who may change what, as rows of text describe; reports which rows have another answer. Each line of
+//! standard input names a file of rows in the current directory, `data`.
+//!
+//! A row is `CALL => ANSWER`; a line without `=>` is a comment, and spaces within answers are passed over. Records are words as they
+//! are printed, without their class. The calls:
+//!
+//! - `origin NAME` begins a zone without records, of this name;
+//! - `record RECORD` inserts a record into it: whether it was taken;
+//! - `update ENTRY; ENTRY; ..` updates it: the code of the response (RFC 2136 section 2.2), and then, each after a semicolon, the records
+//!   that are taken out (`-`) and given (`+`). Each entry is `need` or `change`, and a name, a TTL, a class (`IN`, `ANY`, `NONE`, or another
+//!   by its number) and a type, and then `data` and these; or `empty` for none, or `unread` for data that aren't read;
+//! - `back` applies the difference of the last update backwards to the zone, which is then the one before: whether it is;
+//! - `since SERIAL` tells how many versions of the zone who has the one of a serial lacks, and what they changed together, or `none`;
+//! - `scarce ENTRY; ..` makes the same update of the zone with no memory left, and then with a little more each time: whether memory was
+//!   refused, and the code in the end; the zone stays as it is;
+//! - `rule grant|deny KEY SCOPE NAME TYPE ..` adds a rule to a table; the scopes are `name`, `subdomain`, `own-name` and `own-subdomain`;
+//! - `ask KEY ENTRY; ..` makes an update where the table of rules permits it to who has a key, `ask-unsigned ENTRY; ..` to who has none: as
+//!   `update`;
+//! - `permit KEY NAME TYPE` asks whether who has a key may change the sets of a name and a type, `permit-unsigned NAME TYPE` whether who
+//!   has none may;
+//! - `message HEX ZONE ENTRY; ..` asks whether octets are an update of a zone with these entries, `response HEX CODE` for the octets of the
+//!   response to them with a code.
+#![tactic(auto)]
+
+mod calls;
+mod entries;
+mod messages;
+mod policy;
+mod rows;
+mod updating;
+mod versions;
+
+use std::{fs, io};
+
+fn main(rt: HostRuntime) -> io::Result<()> {
+    for file in rt.lines(rt.alloc()) {
+        let file = file?;
+        let text = fs::read_to_string(&rt, file.as_str())?;
+        let report = rows::report(rt.alloc(), text.as_str())?;
+        println!(rt; "{file}: {report}")?;
+    }
+    Ok(())
+}
