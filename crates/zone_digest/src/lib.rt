@@ -5,8 +5,10 @@ mod digests;
 mod owners;
 mod putting;
 mod signatures;
+mod verifying;
 mod zone_text;
 
 pub use digests::{DigestAlgorithm, zone_digest, zonemd_data};
 pub use putting::put_digest;
+pub use verifying::{DigestFault, digest_fault};
 pub use zone_text::push_zone;
