@@ -1,5 +1,5 @@
 //! Messages of clients, as a program that isn't written in Rattle hands them over.
-ghost use Rattle.std.specs.Prelude.{◌≡◌, ◌==◌, ◌%◌, ◌^◌, not};
+ghost use Rattle.std.specs.Prelude.{◌≡◌};
 ghost use Rattle.zone_database.specs.Calls.{transport_of};
 ghost use Rattle.arrival_calls.specs.ArrivalCalls.{AnswersClient, arrival_of, options_of};
 
