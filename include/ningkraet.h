@@ -79,7 +79,19 @@ enum {
     NK_NO_ROOM = 6,       /* the response is longer than the buffer for it */
     NK_NO_ZONE = 7,       /* there is no zone with this origin */
     NK_ZONE_EXISTS = 8,   /* there is a zone with this origin already */
-    NK_BAD_TRANSPORT = 9  /* the transport is neither NK_UDP nor NK_TCP */
+    NK_BAD_TRANSPORT = 9, /* the transport is neither NK_UDP nor NK_TCP */
+    NK_NO_PLAN = 20,      /* there is no plan: none was begun, or it was finished or freed */
+    NK_BAD_KEYS = 21,     /* the keys aren't DNSKEY data, one can't be a zone's key, or there are more than 256 */
+    NK_MISSING_KEYS = 22, /* there is no key, or one by whose algorithm not each set is signed (RFC 4035 section 2.2) */
+    NK_BAD_MOMENTS = 23,  /* signatures can't hold from the one moment to the other (RFC 4034 section 3.1.5) */
+    NK_BAD_DENIAL = 24,   /* the denial, the iterations or the salt are none that a zone has (RFC 5155 section 3.2) */
+    NK_BAD_ZONE = 25,     /* what the zone has can't be signed: a CNAME at its origin, or records below a DNAME */
+    NK_LONG_NAMES = 26,   /* the origin is too long for names that are hashed */
+    NK_NO_MORE = 27,      /* everything that is to be signed was handed out */
+    NK_ZONE_CHANGED = 28, /* the zone has another serial than the one that was planned */
+    NK_TOO_FEW = 29,      /* there are fewer signatures than the plan wants */
+    NK_TOO_MANY = 30,     /* there are more */
+    NK_BAD_SIGNATURE = 31 /* a signature isn't as long as those of its key */
 };
 
 /* How a query came; and how many octets a response has at most over each. */
@@ -93,6 +105,27 @@ typedef struct nk_zones {
 
 /* What initializes one, to no zones; as a value, (nk_zones)NK_ZONES_NONE. */
 #define NK_ZONES_NONE {0}
+
+/* A plan of a zone that is being signed, or none. The rules for an nk_zones hold for it too. */
+typedef struct nk_plan {
+    void *kept;
+} nk_plan;
+
+#define NK_PLAN_NONE {0}
+
+/* How a zone denies what it doesn't have: by NSEC, by NSEC3, or by NSEC3 with opt-out (RFC 5155 section 6). */
+enum { NK_NSEC = 0, NK_NSEC3 = 1, NK_NSEC3_OPT_OUT = 2 };
+
+/* How a zone is to be signed. */
+typedef struct nk_signing {
+    uint64_t inception;             /* from when on signatures hold, in seconds since 1970-01-01 00:00 UTC */
+    uint64_t expiration;            /* until when */
+    uint32_t jitter;                /* how many seconds earlier they end at most, those at one name together; else 0 */
+    uint32_t key_ttl;               /* the TTL of DNSKEY, CDS and CDNSKEY records, in seconds */
+    uint32_t denial;                /* NK_NSEC, NK_NSEC3 or NK_NSEC3_OPT_OUT */
+    uint32_t iterations;            /* how many more times names are hashed; RFC 9276 section 3.1 recommends 0 */
+    uint32_t asks_parent;           /* not 0: with CDS and CDNSKEY records for the keys that sign keys (RFC 7344) */
+} nk_signing;
 
 /* The interface version of the linked library, to compare with NK_INTERFACE. */
 uint32_t nk_interface(void);
@@ -220,6 +253,42 @@ enum {
  * NK_DONE, NK_IGNORED, NK_NO_ROOM, NK_NO_MEMORY, NK_BAD_TRANSPORT or NK_CLOSED. */
 uint32_t nk_zones_answer_client(nk_zones *zones, const nk_settings *settings, const nk_message *message, uint8_t *buffer,
                                 size_t buffer_length, size_t *written, nk_summary *summary);
+
+/* Plans the zone with this origin, to be signed by keys that the library never sees: what the zone will have but for the signatures. It gets
+ * the DNSKEY records of these keys, NSEC or NSEC3 records and the next serial (RFC 4035 section 2). Signatures, denials and DNSKEY records
+ * that it has are left out, so a signed zone can be signed again. The plan replaces what is there, which is freed. No zone changes.
+ *
+ *   keys       the data of a DNSKEY record for each key (RFC 4034 section 2.1), each preceded by its length in two octets, the high one first.
+ *              A key with the SEP flag (257) signs DNSKEY, CDS and CDNSKEY, one without it (256) everything else, and a key both where its
+ *              algorithm has none of the other kind (RFC 6781 section 3.1).
+ *   how        see nk_signing. The moments may be less than 2^31 seconds apart.
+ *   salt       of NSEC3, at most 255 octets. RFC 9276 section 3.1 recommends none.
+ *
+ * NK_DONE, NK_BAD_NAME, NK_NO_ZONE, NK_BAD_KEYS, NK_MISSING_KEYS, NK_BAD_MOMENTS, NK_BAD_DENIAL, NK_BAD_ZONE, NK_LONG_NAMES, NK_NO_MEMORY or
+ * NK_CLOSED; after any code but NK_DONE the plan is as it was. */
+uint32_t nk_plan_begin(nk_plan *plan, nk_zones *zones, const uint8_t *origin, size_t origin_length, const uint8_t *keys, size_t keys_length,
+                       const nk_signing *how, const uint8_t *salt, size_t salt_length);
+
+/* Hands out what is to be signed next (RFC 4034 section 3.1.8.1): the octets are at the beginning of the buffer, `written` has their number,
+ * and `number` that of the key, from 0, in the order in which nk_plan_begin had them. Each signature is asked for once, in the order of the
+ * names. After NK_NO_ROOM `written` says how many octets are needed, and the same is handed out again; with any other code but NK_DONE it is
+ * 0. With any code but NK_DONE `number` and the buffer are as they were.
+ * NK_DONE, NK_NO_MORE, NK_NO_ROOM or NK_NO_PLAN. */
+uint32_t nk_plan_next(nk_plan *plan, uint32_t *number, uint8_t *buffer, size_t buffer_length, size_t *written);
+
+/* Takes the next signature, as a RRSIG record has it (for ECDSA r and s, RFC 6605 section 4). The signatures come in the order in which they
+ * were asked for; any number may be asked for before. Whether they are right isn't checked: that takes the keys' cryptography.
+ * NK_DONE, NK_NO_MEMORY or NK_NO_PLAN. */
+uint32_t nk_plan_sign(nk_plan *plan, const uint8_t *signature, size_t signature_length);
+
+/* Puts the signed zone in place of the one that was planned, and frees the plan. If threads answer from copies of the zones, do this to a copy
+ * and hand that out, as for a reload ("Threads", above).
+ * NK_DONE, NK_TOO_FEW, NK_TOO_MANY, NK_BAD_SIGNATURE, NK_NO_ZONE, NK_ZONE_CHANGED, NK_NO_MEMORY, NK_NO_PLAN or NK_CLOSED; after any code but
+ * NK_DONE the zones and the plan are as they were. */
+uint32_t nk_plan_finish(nk_plan *plan, nk_zones *zones);
+
+/* Frees the plan, if there is one. Afterwards there is none. */
+void nk_plan_free(nk_plan *plan);
 
 #ifdef __cplusplus
 }

@@ -63,6 +63,8 @@ def flags(folder):
 WORDS = {
     "Global": "alloc",
     "&mut Handle": "&mut {}",
+    "&mut PlanHandle": "&mut {}",
+    "&Signing": "&how",
     "&[u8]": "&text",
     "&mut [u8]": "&mut room",
     "&mut usize": "&mut written",
@@ -75,7 +77,8 @@ WORDS = {
 PROGRAM = """
 fn main(rt: HostRuntime) -> std::process::ExitCode {{
     let alloc = rt.alloc();
-    let (mut zones, mut other) = (Handle::empty(alloc), Handle::empty(alloc));
+    let (mut zones, mut other, mut plan) = (Handle::empty(alloc), Handle::empty(alloc), PlanHandle::empty(alloc));
+    let how = Signing {{ inception: 0, expiration: 0, jitter: 0, key_ttl: 0, denial: 0, iterations: 0, asks_parent: 0 }};
     let (text, mut room, mut written, mut serial) = ([0u8; 8], [0u8; 8], 0usize, 0u32);
     let settings = ServerSettings {{ nsid: &text, secrets: &text, cookies_required: 0 }};
     let message = ClientMessage {{ octets: &text, address: &text, moment: 0, limit: 512, transport: 0 }};

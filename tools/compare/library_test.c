@@ -145,6 +145,57 @@ static int cookies(void) {
     return 0;
 }
 
+/* A key of ECDSA with P-256, of which the library sees the data of its DNSKEY record alone, behind their length. */
+static const uint8_t key[70] = {0, 68, 1, 1, 3, 13, 7};
+static const nk_signing by_nsec = {.inception = 1000, .expiration = 2000, .key_ttl = 60}, by_nsec3 = {.inception = 1000, .expiration = 2000, .denial = NK_NSEC3_OPT_OUT, .iterations = 1};
+
+static uint32_t begin(nk_plan *plan, nk_zones *zones, const char *origin, size_t keys, const nk_signing *how, size_t salt) {
+    return nk_plan_begin(plan, zones, (const uint8_t *)origin, strlen(origin), key, keys, how, before, salt);
+}
+
+/* Hands out all that is left of a plan, and gives so many signatures less; and how many were asked for. */
+static long sign_all(nk_plan *plan, long less) {
+    size_t written;
+    uint32_t number;
+    long asked = 0;
+    while (nk_plan_next(plan, &number, room, sizeof room, &written) == NK_DONE && !number && written > 40) asked++;
+    for (long n = less; n < asked; n++) if (nk_plan_sign(plan, key, 64) != NK_DONE) return 0;
+    return asked;
+}
+
+/* The same for a zone that is signed. */
+static int plan_refusals(void) {
+    nk_zones zones = NK_ZONES_NONE;
+    nk_plan plan = NK_PLAN_NONE;
+    nk_signing other = by_nsec3;
+    size_t written = 9;
+    uint32_t number = 8;
+    memset(room, 85, sizeof room);
+    IS(begin(&plan, &zones, ORIGIN, sizeof key, &by_nsec, 0) == NK_CLOSED && nk_plan_sign(&plan, key, 64) == NK_NO_PLAN && nk_plan_finish(&plan, &zones) == NK_NO_PLAN);
+    IS(nk_plan_next(&plan, &number, room, sizeof room, &written) == NK_NO_PLAN && !written && number == 8 && is_untouched());
+    IS(nk_zones_new(&zones) == NK_DONE && begin(&plan, &zones, ORIGIN, sizeof key, &by_nsec, 0) == NK_NO_ZONE && begin(&plan, &zones, "a..b", sizeof key, &by_nsec, 0) == NK_BAD_NAME);
+    IS(load(&zones, 0, ORIGIN, text, &written) == NK_DONE && begin(&plan, &zones, ORIGIN, 69, &by_nsec, 0) == NK_BAD_KEYS && begin(&plan, &zones, ORIGIN, 0, &by_nsec, 0) == NK_MISSING_KEYS);
+    IS(begin(&plan, &zones, ORIGIN, sizeof key, &by_nsec3, 256) == NK_BAD_DENIAL && (other.denial = 3) && begin(&plan, &zones, ORIGIN, sizeof key, &other, 0) == NK_BAD_DENIAL);
+    IS((other = by_nsec).denial == NK_NSEC && (other.inception = 2000) && begin(&plan, &zones, ORIGIN, sizeof key, &other, 0) == NK_BAD_MOMENTS);
+    IS(load(&zones, 0, "d.example", "$TTL 1\n@ SOA a b 1 2 3 4 5\n@ NS a\na DNAME x.\na.a A 192.0.2.1\n", &written) == NK_DONE && begin(&plan, &zones, "d.example", sizeof key, &by_nsec, 0) == NK_BAD_ZONE);
+    IS(nk_plan_next(&plan, &number, room, 1, &written) == NK_NO_PLAN);
+    IS(begin(&plan, &zones, ORIGIN, sizeof key, &by_nsec, 0) == NK_DONE);
+    memset(room, 85, sizeof room);
+    IS(nk_plan_next(&plan, &number, room, 18, &written) == NK_NO_ROOM && written > 60 && number == 8 && is_untouched());
+    IS(sign_all(&plan, 1) == 15 && nk_plan_next(&plan, &number, room, sizeof room, &written) == NK_NO_MORE && !written && number == 8);
+    IS(nk_plan_finish(&plan, &zones) == NK_TOO_FEW && nk_plan_sign(&plan, key, 63) == NK_DONE && nk_plan_finish(&plan, &zones) == NK_BAD_SIGNATURE);
+    IS(nk_plan_sign(&plan, key, 63) == NK_DONE && nk_plan_finish(&plan, &zones) == NK_TOO_MANY && serial(&zones, ORIGIN, &number) == NK_DONE && number == 7);
+    IS(begin(&plan, &zones, ORIGIN, sizeof key, &by_nsec3, 2) == NK_DONE && sign_all(&plan, 0) > 15 && drop(&zones, ORIGIN) == NK_DONE && nk_plan_finish(&plan, &zones) == NK_NO_ZONE);
+    IS(load(&zones, 0, ORIGIN, "$TTL 60\n@ SOA ns host 9 2 3 4 5\n@ NS ns\n", &written) == NK_DONE && nk_plan_finish(&plan, &zones) == NK_ZONE_CHANGED);
+    IS(load(&zones, 0, ORIGIN, text, &written) == NK_DONE && nk_plan_finish(&plan, &zones) == NK_DONE && nk_plan_finish(&plan, &zones) == NK_NO_PLAN);
+    IS(serial(&zones, ORIGIN, &number) == NK_DONE && number == 8 && answer(&zones, "www", 1, NK_UDP, 1232, &written) == NK_DONE && room[7] == 2 && room[11] == 1);
+    IS(begin(&plan, &zones, ORIGIN, sizeof key, &by_nsec, 0) == NK_DONE && sign_all(&plan, 0) == 15 && nk_plan_finish(&plan, &zones) == NK_DONE);   /* once more, by NSEC now */
+    IS(serial(&zones, ORIGIN, &number) == NK_DONE && number == 9 && answer(&zones, "wwx", 1, NK_UDP, 1232, &written) == NK_DONE && (room[3] & 15) == 3 && room[9] == 6);
+    IS(begin(&plan, &zones, ORIGIN, sizeof key, &by_nsec, 0) == NK_DONE);
+    nk_plan_free(&plan), nk_plan_free(&plan), nk_zones_free(&zones);
+    return 0;
+}
+
 /* The calls of the session, by their numbers; and what is asked for. */
 static const char *const labels[] = {"www", "nowhere", "a.cut", "alias", "a.wild", "www"};
 static const int types[] = {16, 1, 1, 1, 1, 15};
@@ -200,6 +251,23 @@ static int failures(nk_zones *zones) {
     return 0;
 }
 
+/* The same of the calls that plan and sign a zone: what has memory for it goes on from where it was. */
+static int plan_failures(nk_zones *zones) {
+    nk_plan plan = NK_PLAN_NONE;
+    uint32_t code = NK_NO_MEMORY, number;
+    long refused = 0, asked;
+    for (long nth = 1; code != NK_DONE; nth++, refused++) {
+        left = nth, code = begin(&plan, zones, ORIGIN, sizeof key, &by_nsec3, 3), left = -1;
+        IS(code == NK_DONE || (code == NK_NO_MEMORY && nk_plan_sign(&plan, key, 64) == NK_NO_PLAN));
+    }
+    IS((asked = sign_all(&plan, 1)) > 15);
+    for (long nth = 1; (left = nth, code = nk_plan_sign(&plan, room, 64), left = -1, code) != NK_DONE; nth++, refused++) IS(code == NK_NO_MEMORY && nk_plan_finish(&plan, zones) == NK_TOO_FEW);
+    for (long nth = 1; (left = nth, code = nk_plan_finish(&plan, zones), left = -1, code) != NK_DONE; nth++, refused++) IS(code == NK_NO_MEMORY && serial(zones, ORIGIN, &number) == NK_DONE && number == 7);
+    IS(serial(zones, ORIGIN, &number) == NK_DONE && number == 8);
+    printf("%ld signatures asked for, and %ld times no memory for them\n", asked, refused - 1);
+    return 0;
+}
+
 /* Answers queries with octets turned. */
 static int datagrams(nk_zones *zones, long count) {
     long codes[10] = {0};
@@ -217,7 +285,7 @@ static int datagrams(nk_zones *zones, long count) {
 int main(int argc, char **argv) {
     nk_zones zones = NK_ZONES_NONE;
     memset(before, 85, sizeof before);
-    int status = refusals() || cookies() || failures(&zones) || datagrams(&zones, argc > 1 ? atol(argv[1]) : 0);
+    int status = refusals() || plan_refusals() || cookies() || failures(&zones) || datagrams(&zones, argc > 1 ? atol(argv[1]) : 0) || plan_failures(&zones);
     nk_zones_free(&zones);
     return status;
 }

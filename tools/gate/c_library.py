@@ -4,6 +4,8 @@
   tools/gate/c_library.py program FOLDER    the program of the README, compiled with the commands of the documents, answers
   tools/gate/c_library.py calls FOLDER      each call reports each refusal, and each failing allocation (library_test.c)
   tools/gate/c_library.py front.c FOLDER    a query for the zone of the README's tour is answered over UDP and TCP
+  tools/gate/c_library.py signed.c FOLDER   the zone of the tour, signed by OpenSSL with new keys, is answered with signatures, which delv
+                                            finds valid if it is installed; says so where OpenSSL's header isn't
   tools/gate/c_library.py front.py PROGRAM  the same by zoned
   tools/gate/c_library.py server FOLDER     the same by ningkraetd, which says so where a configuration is wrong, and ends as it is told to
 
@@ -17,6 +19,7 @@ import socket
 import subprocess
 import sys
 import tempfile
+import time
 
 sys.dont_write_bytecode = True
 TOOLS = os.path.dirname(os.path.dirname(os.path.realpath(__file__)))
@@ -33,6 +36,8 @@ from sources import TOP
 ADDRESS = "192.0.2.80"
 # The lines of the documents that compile a program over the library; and the one that is a server.
 LINE, SERVER = re.compile(r"^cc .*?(\S+\.c) \$\(pkg-config --cflags --libs ningkraet\) -o \w+", re.M), "examples/serving/front.c"
+# The program that signs, the folder of the header that it needs, and what delv says of a response that is validated.
+SIGNED, OPENSSL, VALIDATED = "examples/serving/signed.c", "openssl", "; fully validated"
 # The sources of ningkraetd.
 DAEMON = sorted(it for it in os.listdir(f"{TOP}/server") if it.endswith(".c") and it != "ningkraetctl.c")
 # Datagrams with octets turned, as many as take a second, and the seconds that an answer may take.
@@ -120,6 +125,39 @@ def front_py(path, room):
     asked_of(port, peers.front(path, port, {ORIGIN: f"{TOP}/{ZONE}"}))
 
 
+def signed(folder, room):
+    if subprocess.run(["cc", "-E", "-"], input=f"#include <{OPENSSL}/evp.h>\n", text=True, capture_output=True).returncode:
+        print(f"c_library: {SIGNED} isn't tried, since OpenSSL's headers aren't installed (libssl-dev)")
+        return
+    port = peers.free_port()
+    ran(["cc", "-O2", "-Wall", "-Wextra", "-Werror", f"{TOP}/{SIGNED}", *library.flags(folder), "-lcrypto", "-o", f"{room}/signed"])
+    with open(f"{room}/anchors", "w", encoding="utf-8") as anchors:
+        server = subprocess.Popen([f"{room}/signed", str(port), ORIGIN, f"{TOP}/{ZONE}"], stdout=anchors)
+    try:
+        lines = list(frames.message_lines(answer_of(port, frames.query([ORIGIN, "DNSKEY", "edns=1232", "do"]))))
+        need([sum(f" IN {it} \\#" in line for line in lines) for it in ("DNSKEY", "RRSIG")] == [2, 2], f"of its keys it says {lines}")
+        if shutil.which("delv"):
+            said = ran(["delv", "@127.0.0.1", "-p", str(port), "-a", f"{room}/anchors", f"+root={ORIGIN}", f"www.{ORIGIN}", "A"])
+            need(said.startswith(VALIDATED), f"delv says {said}")
+    finally:
+        peers.end(server)
+
+
+def answer_of(port, query):
+    """The response to a query over UDP of a server that is being started."""
+    ends = time.monotonic() + PATIENCE
+    with socket.socket(socket.AF_INET, socket.SOCK_DGRAM) as it:
+        it.connect(("127.0.0.1", port))
+        it.settimeout(1)
+        while time.monotonic() < ends:
+            try:
+                it.send(query)
+                return it.recv(65535)
+            except OSError:
+                time.sleep(0.1)
+    raise Wrong(f"nothing answers on port {port}")
+
+
 def server(folder, room):
     flags = ["cc", "-std=gnu11", "-D_GNU_SOURCE", "-O2", "-Wall", "-Wextra", "-Werror", "-pthread"]
     for name, sources_of in (("ningkraetd", DAEMON), ("ningkraetctl", ["ningkraetctl.c"])):
@@ -161,7 +199,7 @@ def asked_of(port, words, at_last=lambda: None):
         need(is_answer, f"by {way}: {lines}")
 
 
-TRIES = {"program": program, "calls": calls, "front.c": front_c, "front.py": front_py, "server": server}
+TRIES = {"program": program, "calls": calls, "front.c": front_c, "signed.c": signed, "front.py": front_py, "server": server}
 
 
 def main(words):

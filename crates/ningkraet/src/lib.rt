@@ -1,13 +1,16 @@
 //! The zones of a server for programs that aren't written in Rattle: what `include/ningkraet.h` declares, each by one call of
-//! `zone_database` or `arrival_calls`. C passes no allocator; to C a slice is a pointer and a length, and a `&mut` a pointer.
+//! `zone_database`, `arrival_calls` or `plan_calls`. C passes no allocator; to C a slice is a pointer and a length, and a `&mut` a pointer.
 #![tactic(auto)]
 
 ghost use Rattle.std.specs.Prelude.{◌≡◌, [], None};
 ghost use Rattle.arrival_calls.specs.ArrivalCalls.{AnswersClient};
 ghost use Rattle.zone_database.specs.Calls.{transport_of, AnswersHeld, AsksHeld, ChangesHeld, IsAdded, IsCreated, IsDropped, IsLoaded, IsPrepared, IsSerial, IsReported};
 ghost use Rattle.zone_database.specs.Outcomes.{code_of, Codes};
+ghost use Rattle.plan_calls.specs.Calls.{BeginsHeld, FinishesHeld, GivesHeld, TakesHeld};
+ghost use Rattle.plan_calls.specs.Outcomes.{Codes as PlanCodes};
 
 use arrival_calls::{ClientMessage, ServerSettings, SummaryNumbers, answer_client};
+use plan_calls::{PlanHandle, Signing, calls as plans};
 use std::alloc::Global;
 use zone_database::{Handle, calls};
 
@@ -153,4 +156,72 @@ pub extern "C" fn nk_zones_answer_client(
     ensures same { zones.new.held ≡ zones.old.held }
 {
     answer_client(alloc, zones, settings, message, buffer, written, summary).code()
+}
+
+/// Plans the zone of an origin, to be signed by these keys, in place of the plan that is kept. No zone changes.
+#[unsafe(no_mangle)]
+pub extern "C" fn nk_plan_begin(
+    alloc: Global,
+    plan: &mut PlanHandle,
+    zones: &mut Handle,
+    origin: &[u8],
+    keys: &[u8],
+    how: &Signing,
+    salt: &[u8],
+) -> u32
+    ensures begun { PlanCodes result (λ o.
+        BeginsHeld origin.now keys.now how.now salt.now zones.old.held plan.old.held o
+        plan.new.held) }
+    ensures same { zones.new.held ≡ zones.old.held }
+{
+    plans::begin(alloc, zones, plan, origin, keys, how, salt).code()
+}
+
+/// Writes what is to be signed next into the room, and the number of its key.
+#[unsafe(no_mangle)]
+pub extern "C" fn nk_plan_next(
+    alloc: Global,
+    plan: &mut PlanHandle,
+    number: &mut u32,
+    buffer: &mut [u8],
+    written: &mut usize,
+) -> u32
+    ensures { PlanCodes result (λ o.
+        GivesHeld plan.old.held o
+        (record {
+          number_before = number.old;
+          number = number.new;
+          written = written.new;
+          before = buffer.old;
+          after = buffer.new;
+        })
+        plan.new.held) }
+{
+    plans::next(alloc, plan, number, buffer, written).code()
+}
+
+/// Takes the next signature.
+#[unsafe(no_mangle)]
+pub extern "C" fn nk_plan_sign(alloc: Global, plan: &mut PlanHandle, signature: &[u8]) -> u32
+    ensures { PlanCodes result (λ o.
+        TakesHeld signature.now plan.old.held o plan.new.held) }
+{
+    plans::sign(alloc, plan, signature).code()
+}
+
+/// Puts the signed zone in place of the one that was planned, and gives the memory of the plan back.
+#[unsafe(no_mangle)]
+pub extern "C" fn nk_plan_finish(alloc: Global, plan: &mut PlanHandle, zones: &mut Handle) -> u32
+    ensures { PlanCodes result (λ o.
+        FinishesHeld plan.old.held zones.old.held o plan.new.held zones.new.held) }
+{
+    plans::finish(alloc, plan, zones).code()
+}
+
+/// Gives the memory of the plan that is kept back. Nothing is kept then.
+#[unsafe(no_mangle)]
+pub extern "C" fn nk_plan_free(alloc: Global, plan: &mut PlanHandle)
+    ensures { plan.new.held ≡ None }
+{
+    plans::free(alloc, plan)
 }
