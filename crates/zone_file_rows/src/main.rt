@@ -3,11 +3,12 @@
 //!
 //! A row is `TEXT => ANSWER`; a line without `=>` is a comment. In a text `{10}` is the octet 10, and `{97x300}` is the octet
 //! 97 three hundred times. In the file `words` a text is a call and a word; in `zones`, `failing`, `printed` and `types` it is an
-//! origin and a zone file, in `loading` and `chains` a call, an origin and a zone file, and in `publications` a moment, an
-//! origin and a zone file. Texts and zone files are read whole, and octet by octet too.
+//! origin and a zone file, in `loading` and `chains` a call, an origin and a zone file, in `digests` an algorithm, an
+//! origin and a zone file, and in `publications` a moment, an origin and a zone file. Texts and zone files are read whole, and octet by octet too.
 #![tactic(auto)]
 
 mod chains;
+mod digests;
 mod entries;
 mod loading;
 mod octets;

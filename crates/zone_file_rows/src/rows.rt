@@ -1,7 +1,7 @@
 //! Rows: texts, and how they are read.
 
 use crate::octets::octets_of;
-use crate::{chains, entries, loading, printed, publications, words, zone};
+use crate::{chains, digests, entries, loading, printed, publications, words, zone};
 use std::alloc::{AllocError, Global};
 
 /// What the rows of a file write.
@@ -23,6 +23,8 @@ pub enum Kind {
     Loading,
     /// A call, an origin and a zone file, and whether the zone of its records has a chain.
     Chains,
+    /// An algorithm, an origin and a zone file, and the digest of its zone.
+    Digests,
     /// A moment, an origin and a zone file, and what is found of its zone before it is published.
     Publications,
 }
@@ -38,6 +40,7 @@ impl Kind {
             "types" => Kind::Types,
             "loading" => Kind::Loading,
             "chains" => Kind::Chains,
+            "digests" => Kind::Digests,
             "publications" => Kind::Publications,
             _ => Kind::Entries,
         }
@@ -86,6 +89,7 @@ fn answer(alloc: Global, kind: Kind, row: &str) -> Result<String, AllocError> {
         Kind::Types => types_answer(alloc, row),
         Kind::Loading => loading::answer(alloc, row),
         Kind::Chains => chains::answer(alloc, row),
+        Kind::Digests => digests::answer(alloc, row),
         Kind::Publications => publications::answer(alloc, row),
     }
 }
