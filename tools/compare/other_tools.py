@@ -9,7 +9,9 @@ What zone_check prints for a file has to be what named-compilezone prints for it
 spelling that NAMES and the lists after it describe; and when named-compilezone reads it, it has to give the same as the file itself.
 So does each line of data of record_types.txt, but for those for which it says why they aren't read here.
 Files with a fault have to be rejected by zone_check and by the checkers of BIND, NSD and Knot, except for a list of those that one of
-them accepts. The tools are Debian's packages bind9-utils, ldnsutils, nsd, knot and knot-dnssecutils. The status is 1 if anything differs.
+them accepts. The files of the folder zone_faults, each with one fault or none, are judged by these checkers and by ldns-verify-zone and
+dnssec-verify too (zone_faults.py). The tools are Debian's packages bind9-utils, ldnsutils, nsd, knot and knot-dnssecutils. The status is
+1 if anything differs.
 """
 import ipaddress
 import os
@@ -25,6 +27,7 @@ sys.path.append(os.path.dirname(os.path.dirname(os.path.realpath(__file__))))
 
 import peers
 import signed_zones
+import zone_faults
 
 ORIGIN = "example.com."
 
@@ -339,6 +342,14 @@ def compare_faults(program, folder):
     print(f"{len(FAULTY)} files with a fault are refused")
 
 
+def compare_corpus(program):
+    wrong, table = zone_faults.compare(program, [it for it in zone_faults.TOOLS if need(it)])
+    print(table)
+    if wrong:
+        raise Failed("\n".join(wrong))
+    print("the files of zone_faults are judged as the strictest of these judges them, but for those that are said to be taken")
+
+
 def write(path, text):
     with open(path, "w", encoding="ascii") as it:
         it.write(text)
@@ -356,7 +367,7 @@ def main(words):
         rolls = random.Random(seed)
         zones = {"the written zone": WRITTEN, "a zone of 2000 delegations": root_shaped(2000)}
         zones.update({f"random zone {i}": random_zone(rolls, 300) for i in range(20)})
-        tasks = [(compare_faults, program, folder), (compare_types, program, folder)]
+        tasks = [(compare_faults, program, folder), (compare_types, program, folder), (compare_corpus, program)]
         for i, (what, text) in enumerate(zones.items()):
             path = write(f"{folder}/zone{i}", text)
             tasks.append((compare, program, path, what))

@@ -1,5 +1,5 @@
 -- What is reported of a zone's denials is so of what a server makes of its file
-use Rattle.std.proofs.Common.{◌≡◌, ℕ, Bool, true, false, cond, not, ◌&&◌, List, [], ◌∷◌, map, refl, sym, ap, ◌∙◌, subst, true≢false, ◌⊎◌, inl, inr, arith}
+use Rattle.std.proofs.Common.{◌≡◌, ℕ, Bool, true, false, cond, not, ◌&&◌, List, [], ◌∷◌, ◌++◌, map, refl, sym, ap, ◌∙◌, subst, true≢false, ◌⊎◌, inl, inr, arith}
 use Rattle.std.specs.Prelude.{Option, Some, None, Ok, is_some, option_and_then, option_map, length, nat_lt, slice_get, unwrap_or}
 use Rattle.std.specs.Option.{option_map_or, option_or}
 use Rattle.std.proofs.lemmas.Bool.{ltb-true}
@@ -29,7 +29,11 @@ use Rattle.zone_denial.specs.Nsec3Zones.{hash_with}
 use Rattle.zone_denial.proofs.Chains.ChainSets.{sets_are}
 use Rattle.zone_denial.proofs.Names.LongestAncestors.{above_shorter}
 use Rattle.zone_file.specs.declared.placed.PlacedRecord.{PlacedRecord}
-use Rattle.zone_file.specs.Zones.{Read}
+use Rattle.zone_file.specs.declared.error.ZoneFault.{ZoneFault}
+use Rattle.zone_file.specs.Zones.{Read, Stopped}
+use Rattle.zone_texts.specs.Readings.{IsReadOf}
+use Rattle.zone_publication.specs.declared.dates.Period.{Period}
+use Rattle.zone_check.specs.Publications.{is_ready, IsFit}
 use Rattle.zone_builder.specs.declared.given.GivenRecord.{GivenRecord}
 use Rattle.zone_builder.specs.declared.loading.Loaded.{Loaded}
 use Rattle.zone_builder.specs.DenialKinds.{announced_kind, chain_kind, first_kind, hashed_kind, named_kind, nsec3_set_of, opts_out}
@@ -61,6 +65,17 @@ same_zone origin gs loaded z h made =
 pub served_rightly : (origin : Name) (gs : List GivenRecord) (loaded : Loaded) → IsLoaded origin gs loaded → DeniesRightly (served loaded) → (z : Zone) → IsZoneOf origin gs z → DeniesRightly (served_zone z)
 served_rightly origin gs loaded h right z made = subst DeniesRightly (same_zone origin gs loaded z h made) right
 
+-- what was loaded is fit where it is ready
+pub fit : (period : Option Period) (origin : Name) (gs : List GivenRecord) (loaded : Loaded) → IsLoaded origin gs loaded
+    → is_ready period loaded.origin loaded.records ≡ true → IsFit period origin gs
+fit period origin gs loaded h ready = record {
+  faultless = h.faultless;
+  ready = λ z made.
+      let records : loaded.records ≡ z.inner.records = same_sets loaded.records z.inner.records h.zone made.zone (λ n t. h.sets n t ∙ sym (made.sets n t)) in
+      let same : is_ready period loaded.origin loaded.records ≡ is_ready period origin z.inner.records = λ i. is_ready period (h.at i) (records i) in
+      sym same ∙ ready;
+}
+
 -- ---- the records that are read of a text
 
 same_records : (rs qs : List PlacedRecord) → map Read rs ≡ map Read qs → rs ≡ qs
@@ -74,6 +89,19 @@ pub zone_of_read : (named : Option Name) (text : List ℕ) (rs : List PlacedReco
     → IsZoneOf (lower (origin_of named rs)) (map given_of rs) z
 zone_of_read named text rs z read file =
     subst (λ (qs : List PlacedRecord). IsZoneOf (lower (origin_of named qs)) (map given_of qs) z) (same_records file.records rs (sym file.read ∙ read)) file.zone
+
+-- a text that makes a zone has no fault
+no_end : (qs rs : List PlacedRecord) (f : ZoneFault) → map Read qs ≡ map Read rs ++ Stopped f ∷ [] → ⊥
+no_end [] [] f e = absurd cc
+no_end [] (r ∷ rs) f e = absurd cc
+no_end (q ∷ qs) [] f e = absurd cc
+no_end (q ∷ qs) (r ∷ rs) f e = let rest : map Read qs ≡ map Read rs ++ Stopped f ∷ [] = cc in no_end qs rs f rest
+
+-- so what is read of it with the texts that it includes is what is read of it
+pub zone_of_reading : (named : Option Name) (text : List ℕ) (rs : List PlacedRecord) (z : Zone) → IsReadOf (unwrap_or named []) text rs → IsZoneOfFile named text z
+    → IsZoneOf (lower (origin_of named rs)) (map given_of rs) z
+zone_of_reading named text rs z (inl read) file = zone_of_read named text rs z read file
+zone_of_reading named text rs z (inr (f, (qs, ends))) file = absurd (no_end file.records qs f (sym file.read ∙ ends))
 
 -- ---- nothing at the origin or above it refers elsewhere
 

@@ -1,11 +1,16 @@
 //! Reads a zone file, and tells what is wrong with it, or what it has.
-ghost use Rattle.std.specs.Prelude.{◌≡◌, ◌≤◌, ℕ, List, Some, IsFalse};
+ghost use Rattle.std.specs.Prelude.{◌≡◌, ◌≤◌, ℕ, List, Some, IsFalse, map};
+ghost use Rattle.zone_proto.specs.Names.{lower};
+ghost use Rattle.file_origins.specs.Origins.{origin_of};
 ghost use Rattle.zone_database.specs.declared.zone.Zone.{Zone};
 ghost use Rattle.zone_database.specs.Files.{IsZoneOfFile};
+ghost use Rattle.zone_database.specs.Texts.{given_of, IsZoneOf};
 ghost use Rattle.zone_database.specs.Zones.{served_zone};
 ghost use Rattle.zone_check.specs.Denials.{DeniesRightly};
+ghost use Rattle.zone_check.specs.Publications.{IsFit, IsReadFit};
+ghost use Rattle.zone_file.specs.declared.placed.PlacedRecord.{PlacedRecord};
 
-use crate::reporting::tell;
+use crate::reporting::{tell, tell_faults};
 use crate::wanted::Wanted;
 use crate::zone::check_zone;
 use file_origins::first_origin;
@@ -13,9 +18,10 @@ use std::alloc::Global;
 use std::cmp::Ordering;
 use std::io;
 use std::io::{ErrorKind, Read, Write};
-use zone_file::{FaultText, InputError, PlacedRecord, ZoneFault, read_zone};
+use zone_file::PlacedRecord;
 use zone_file_writer::MasterText;
 use zone_proto::{Record, RecordType};
+use zone_texts::{FilesError, Reading, Texts, read_files};
 
 /// Reads a zone file from `input`, and gives the status of the program: 0 where a zone can be made of it, and the
 /// sets by which it denies, if it has any, are a closed chain; 1 where that isn't so, and 2 where it can't be told.
@@ -26,15 +32,20 @@ use zone_proto::{Record, RecordType};
 /// Where the status is 0 and nothing is to be printed, each zone that a server makes of the same text and origin has
 /// no NSEC and NSEC3 sets, or is one of which the laws of `response_laws` speak: `responses_prove_what_they_say` and
 /// `hashed_responses_prove_what_they_say`.
-pub fn check<R: Read, W: Write, E: Write>(
+pub fn check<R: Read, T: Texts, W: Write, E: Write>(
     alloc: Global,
     wanted: &Wanted<'_>,
     input: &mut R,
+    texts: &mut T,
     output: &mut W,
     fault: &mut E,
 ) -> u8
     ensures status { result ≤ 2 }
     // Where it is known what the input has left, as of a slice, that is the text.
+    ensures fit { result ≡ 0 → IsFalse wanted.now.is_printed
+        → (text : List ℕ) → R.remaining input.old ≡ Some text
+        → (records : List PlacedRecord)
+        × IsReadFit wanted.now.period wanted.now.origin text records }
     ensures served { result ≡ 0 → IsFalse wanted.now.is_printed
         → (text : List ℕ) → R.remaining input.old ≡ Some text
         → (z : Zone) → IsZoneOfFile wanted.now.origin text z
@@ -43,26 +54,51 @@ pub fn check<R: Read, W: Write, E: Write>(
     let Ok(origin) = first_origin(alloc, &wanted.origin) else {
         return tell(fault, b"out of memory\n");
     };
-    match read_zone(alloc, origin, input) {
-        Ok(mut records) if wanted.is_printed => match print(alloc, output, &mut records) {
-            Ok(()) => 0,
-            Err(e) if e.kind() == ErrorKind::OutOfMemory => tell(fault, b"out of memory\n"),
-            Err(_) => tell(fault, b"write failed\n"),
-        },
-        Ok(records) => check_zone(alloc, wanted, records, output, fault),
-        Err(InputError::Memory) => tell(fault, b"out of memory\n"),
-        Err(InputError::Input(_)) => tell(fault, b"read failed\n"),
-        Err(InputError::Fault(found)) => tell_fault(fault, wanted.file, &found),
+    match read_files(alloc, origin, wanted.file, input, texts, wanted.most_told) {
+        Ok(reading) => check_reading(alloc, wanted, reading, output, fault),
+        Err(FilesError::Memory) => tell(fault, b"out of memory\n"),
+        Err(FilesError::Input(kind)) => {
+            let _ = write!(fault, "{}: the file can't be read: {kind}\n", wanted.file);
+            2
+        }
     }
 }
 
-/// Tells what is wrong with the file, and gives the status for it.
-fn tell_fault<E: Write>(fault: &mut E, file: &str, found: &ZoneFault) -> u8
-    ensures { result ≡ 1 }
+/// The same for what was read of a file and of those that it includes.
+fn check_reading<W: Write, E: Write>(
+    alloc: Global,
+    wanted: &Wanted<'_>,
+    reading: Reading,
+    output: &mut W,
+    fault: &mut E,
+) -> u8
+    ensures status { result ≤ 2 }
+    ensures fit { result ≡ 0 → IsFalse wanted.now.is_printed
+        → IsFit wanted.now.period (lower (origin_of wanted.now.origin reading.records.items))
+        (map given_of reading.records.items) }
+    ensures served { result ≡ 0 → IsFalse wanted.now.is_printed
+        → (z : Zone)
+        → IsZoneOf (lower (origin_of wanted.now.origin reading.records.items))
+        (map given_of reading.records.items) z
+        → DeniesRightly (served_zone z) }
 {
-    let told = FaultText { file, fault: found };
-    let _ = write!(fault, "{told}\n");
-    1
+    if !reading.faults.is_empty() {
+        tell_faults(fault, &reading);
+        return 1;
+    }
+    let Reading {
+        mut records,
+        sources,
+        ..
+    } = reading;
+    if !wanted.is_printed {
+        return check_zone(alloc, wanted, &sources, records, output, fault);
+    }
+    match print(alloc, output, &mut records) {
+        Ok(()) => 0,
+        Err(e) if e.kind() == ErrorKind::OutOfMemory => tell(fault, b"out of memory\n"),
+        Err(_) => tell(fault, b"write failed\n"),
+    }
 }
 
 /// Writes the records in the order in which they are printed, those of one owner and type in the order of the file.

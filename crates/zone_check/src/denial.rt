@@ -12,6 +12,7 @@ use std::io::Write;
 use zone_builder::{Loaded, denial_kind};
 use zone_proto::{NSEC3PARAM, NxProofKind, ProtoError, RData, RecordType, RrKey};
 use zone_sha1::Sha1Hash;
+use zone_texts::Sources;
 use zone_verify::{ChainFault, verify_nsec, verify_nsec3};
 
 /// What a zone denies by.
@@ -56,7 +57,7 @@ impl fmt::Display for Denial {
 ///
 /// The result is right for the zone that a server makes of what was loaded: where a chain is found closed, it is the
 /// one by which that zone denies, and the zone meets the premises of the laws about what a response proves.
-pub fn tell_denial<E: Write>(file: &str, loaded: &Loaded, fault: &mut E) -> Option<Denial>
+pub fn tell_denial<E: Write>(sources: &Sources, loaded: &Loaded, fault: &mut E) -> Option<Denial>
     requires zone { IsZone loaded.now.records }
     requires top { IsUnreferred (served loaded.now) }
     ensures { IfSome result (IsReported (served loaded.now)) }
@@ -65,7 +66,7 @@ pub fn tell_denial<E: Write>(file: &str, loaded: &Loaded, fault: &mut E) -> Opti
         Ok(denial) => Some(denial),
         Err(ChainFault::Memory) => None,
         Err(found) => {
-            tell_at(fault, file, None, &found);
+            tell_at(fault, sources, None, &found);
             Some(Denial::Open)
         }
     }

@@ -9,6 +9,7 @@ mod reporting;
 mod wanted;
 mod zone;
 
+use host_texts::HostTexts;
 use std::alloc::{AllocError, Global};
 use std::io::{BufWriter, Write};
 use std::process::ExitCode;
@@ -16,7 +17,8 @@ use std::time::SystemTime;
 use std::{env, fs, io};
 use wanted::{Wanted, wanted_by};
 
-const USAGE: &[u8] = b"usage: zone_check [--print | --at MOMENT|now [--soon TIME]] FILE [ORIGIN]\n";
+const USAGE: &[u8] =
+    b"usage: zone_check [--all] [--print | --at MOMENT|now [--soon TIME]] FILE [ORIGIN]\n";
 
 fn main(rt: HostRuntime) -> ExitCode {
     let alloc = rt.alloc();
@@ -47,15 +49,31 @@ fn main(rt: HostRuntime) -> ExitCode {
 /// Checks the file, and gives the status of the program.
 fn check_file(rt: &HostRuntime, alloc: Global, wanted: &Wanted<'_>) -> u8 {
     let mut fault = rt.stderr();
-    let Ok(mut input) = fs::open(rt, wanted.file) else {
-        let _ = write!(fault, "{}: the file can't be read\n", wanted.file);
-        return 2;
+    let mut input = match fs::open(rt, wanted.file) {
+        Ok(input) => input,
+        Err(e) => {
+            let _ = write!(
+                fault,
+                "{}: the file can't be read: {}\n",
+                wanted.file,
+                e.kind()
+            );
+            return 2;
+        }
     };
     let Ok(mut output) = BufWriter::new(alloc, io::writer(rt)) else {
         let _ = fault.write_all(b"out of memory\n");
         return 2;
     };
-    checking::check(alloc, wanted, &mut input, &mut output, &mut fault)
+    let mut texts = HostTexts { rt };
+    checking::check(
+        alloc,
+        wanted,
+        &mut input,
+        &mut texts,
+        &mut output,
+        &mut fault,
+    )
 }
 
 /// A moment in seconds since 1970, modulo 2^32, as signatures have them (RFC 4034 section 3.1.5).

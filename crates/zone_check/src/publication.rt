@@ -6,45 +6,53 @@ ghost use Rattle.zone_publication.specs.Findings.{findings};
 ghost use Rattle.zone_publication.specs.Warnings.{is_warning};
 ghost use Rattle.zone_check.specs.Publications.{is_ready};
 
-use crate::reporting::{Warning, tell_at};
+use crate::reporting::{Warning, tell_at, tell_more};
+use crate::wanted::Wanted;
 use std::alloc::Global;
 use std::io::Write;
 use zone_builder::Loaded;
-use zone_publication::{Finding, Period, check};
+use zone_publication::{Finding, check};
+use zone_texts::Sources;
 
 /// Tells what is found of a zone at a moment, if one is given, and gives whether it is ready to be published: nothing that is found is
 /// a fault. None if there isn't enough memory.
 pub fn tell_publication<E: Write>(
     alloc: Global,
-    file: &str,
+    wanted: &Wanted<'_>,
+    sources: &Sources,
     loaded: &Loaded,
-    period: Option<Period>,
     fault: &mut E,
 ) -> Option<bool>
     ensures { IfSome result
-        (λ ready. ready ≡ is_ready period loaded.now.origin loaded.now.records) }
+        (λ ready. ready ≡ is_ready wanted.now.period loaded.now.origin loaded.now.records) }
 {
-    let Some(period) = period else {
+    let Some(period) = wanted.period else {
         return Some(true);
     };
     match check(alloc, &loaded.records, &loaded.origin, period) {
-        Ok(found) => Some(tell_findings(file, found.as_slice(), fault)),
+        Ok(found) => Some(tell_findings(sources, found.as_slice(), wanted.most_told, fault)),
         Err(_) => None,
     }
 }
 
-/// Tells what was found, and gives whether all are warnings.
-fn tell_findings<E: Write>(file: &str, found: &[Finding], fault: &mut E) -> bool
+/// Tells what was found, each of the faults and so many warnings, and gives whether all are warnings.
+fn tell_findings<E: Write>(sources: &Sources, found: &[Finding], most: usize, fault: &mut E) -> bool
     ensures { result ≡ list_all (λ (f : FindingValue). is_warning f.what) found.now }
 {
     let mut is_ready = true;
+    let mut warnings = 0usize;
+    let mut more = 0u64;
     for finding in found {
-        if finding.what.is_warning() {
-            tell_at(fault, file, None, &Warning(finding));
-        } else {
-            tell_at(fault, file, None, finding);
+        if !finding.what.is_warning() {
+            tell_at(fault, sources, None, finding);
             is_ready = false;
+        } else if warnings < most {
+            tell_at(fault, sources, None, &Warning(finding));
+            warnings += 1;
+        } else {
+            more = more.saturating_add(1);
         }
     }
+    tell_more(fault, sources.name(0), more, "warnings");
     is_ready
 }

@@ -4,6 +4,7 @@ ghost use Rattle.std.specs.Prelude.{◌≡◌};
 use std::fmt::Display;
 use std::io::Write;
 use zone_scanner::Place;
+use zone_texts::{Chain, FaultLine, Reading, Sources};
 
 /// Tells why the file can't be checked, and gives the status for it.
 pub fn tell<E: Write>(fault: &mut E, why: &[u8]) -> u8
@@ -13,12 +14,56 @@ pub fn tell<E: Write>(fault: &mut E, why: &[u8]) -> u8
     2
 }
 
-/// Tells something of a place of a file, or of the file where the place isn't known.
-pub fn tell_at<E: Write, T: Display>(fault: &mut E, file: &str, place: Option<Place>, told: &T) {
+/// Tells something of a place of the files that were read, or of the first file where the place isn't known.
+pub fn tell_at<E: Write, T: Display>(
+    fault: &mut E,
+    sources: &Sources,
+    place: Option<Place>,
+    told: &T,
+) {
     let _ = match place {
-        Some(place) => write!(fault, "{file}:{}:{}: {told}\n", place.line, place.column),
-        None => write!(fault, "{file}: {told}\n"),
+        Some(place) => {
+            let at = sources.locate(place);
+            let (file, place) = (sources.name(at.file), at.place);
+            let chain = Chain {
+                sources,
+                file: at.file,
+            };
+            write!(
+                fault,
+                "{file}:{}:{}: {told}{chain}\n",
+                place.line, place.column
+            )
+        }
+        None => write!(fault, "{}: {told}\n", sources.name(0)),
     };
+}
+
+/// Tells the faults of the files that were read, and how many there are besides.
+pub fn tell_faults<E: Write>(fault: &mut E, reading: &Reading) {
+    for found in reading.faults.iter() {
+        let line = FaultLine {
+            sources: &reading.sources,
+            fault: found,
+        };
+        let _ = write!(fault, "{line}\n");
+    }
+    tell_more(
+        fault,
+        reading.sources.name(0),
+        reading.more_faults,
+        "faults",
+    );
+}
+
+/// Tells how many things of a kind aren't told, if there are any.
+pub fn tell_more<E: Write>(fault: &mut E, file: &str, count: u64, things: &str) {
+    if count > 0 {
+        let _ = write!(
+            fault,
+            "{file}: and {count} more {things}, which --all tells\n"
+        );
+    }
 }
 
 /// What is reported as a warning.

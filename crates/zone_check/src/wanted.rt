@@ -5,6 +5,9 @@ use zone_proto::Name;
 use zone_publication::Period;
 use zone_tokens::{read_moment, read_ttl};
 
+/// How many faults and warnings are told where not all are to be.
+const MOST_TOLD: usize = 20;
+
 /// How soon a signature may end before it is told, in seconds, where nothing else is said: three days.
 const SOON: u32 = 259_200;
 
@@ -15,15 +18,30 @@ pub struct Wanted<'w> {
     pub is_printed: bool,
     /// The moment at which the zone is to be published, if that is asked of.
     pub period: Option<Period>,
+    /// How many faults and warnings are told at most.
+    pub most_told: usize,
     /// The name of the file.
     pub file: &'w str,
     /// The origin that the file begins with, and that of its zone, if one is named.
     pub origin: Option<Name>,
 }
 
-/// What words ask for: `--print`, or `--at` and a moment, as signatures have them or `now`, perhaps with `--soon` and a time behind
+/// What words ask for: perhaps `--all` first; then `--print`, or `--at` and a moment, as signatures have them or `now`, perhaps with `--soon` and a time behind
 /// it, or neither; a file; and an origin or nothing. None if they aren't that.
 pub fn wanted_by(alloc: Global, words: &[String], now: u32) -> Option<Wanted<'_>> {
+    let (first, behind) = words.split_first()?;
+    let wanted = match first.as_str() {
+        "--all" => Wanted {
+            most_told: usize::MAX,
+            ..checked_by(alloc, behind, now)?
+        },
+        _ => checked_by(alloc, words, now)?,
+    };
+    Some(wanted)
+}
+
+/// What words behind that ask for.
+fn checked_by(alloc: Global, words: &[String], now: u32) -> Option<Wanted<'_>> {
     let (first, behind) = words.split_first()?;
     match first.as_str() {
         "--print" => named_by(alloc, behind, true, None),
@@ -72,6 +90,7 @@ fn named_by(
     Some(Wanted {
         is_printed,
         period,
+        most_told: MOST_TOLD,
         file: file.as_str(),
         origin,
     })

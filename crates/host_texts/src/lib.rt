@@ -1,0 +1,31 @@
+//! The texts of files of the file system, which programs give to those who read zone files with their inclusions.
+#![tactic(auto)]
+
+use std::alloc::Global;
+use std::fs;
+use std::io::{ErrorKind, Read};
+use zone_texts::Texts;
+
+/// The files of the file system. Of those alone that are files the text is given: what comes through a pipe can't be read twice.
+#[derive(Drop)]
+pub struct HostTexts<'r> {
+    pub rt: &'r HostRuntime,
+}
+
+impl Texts for HostTexts<'_> {
+    fn text(&mut self, alloc: Global, name: &str) -> Result<Vec<u8>, ErrorKind> {
+        match fs::metadata(self.rt, name) {
+            Ok(found) if found.is_file() => {}
+            Ok(_) => return Err(ErrorKind::InvalidInput),
+            Err(e) => return Err(e.kind()),
+        }
+        let mut text = Vec::new(alloc);
+        match fs::open(self.rt, name) {
+            Ok(mut input) => match input.read_to_end(&mut text) {
+                Ok(_) => Ok(text),
+                Err(e) => Err(e.kind()),
+            },
+            Err(e) => Err(e.kind()),
+        }
+    }
+}
