@@ -1,4 +1,6 @@
+pub mod LocationFacts
 pub mod NameFaults
 pub mod PairFacts
 pub mod ParameterFacts
 pub mod RowFacts
+pub mod TypeFacts

@@ -1,7 +1,10 @@
 pub mod Fields
 pub mod Hosts
+pub mod Lines
+pub mod Locations
 pub mod Parameters
 pub mod Parts
 pub mod Readings
 pub mod Rows
 pub mod Texts
+pub mod TypeLists

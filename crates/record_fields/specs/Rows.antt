@@ -15,9 +15,11 @@ use Rattle.record_fields.specs.declared.table.TheConstants.{ROWS}
 use Rattle.record_fields.specs.Readings.{◌>>=◌}
 use Rattle.record_fields.specs.Fields.{Left, Reading, next, next_algorithm, next_u8, next_u16, next_u32}
 use Rattle.record_fields.specs.Hosts.{next_gateway, next_identity, next_relay}
+use Rattle.record_fields.specs.Lines.{next_location}
 use Rattle.record_fields.specs.Parameters.{next_parameters}
 use Rattle.record_fields.specs.Parts.{as_octets, octet, short, long, next_certificate_type, next_digest_type, next_eui48, next_eui64, next_groups, next_name_octets, next_tag}
 use Rattle.record_fields.specs.Texts.{next_base64, next_base64_if_there, next_hex, next_names, next_octets, next_string, next_string_if_there, next_strings}
+use Rattle.record_fields.specs.TypeLists.{next_type_map}
 
 -- the fields of a row, in their order
 abbrev pub fields_of : Fields → List Field
@@ -63,6 +65,8 @@ next_ending origin E.Base64 l = next_base64 l
 next_ending origin E.Base64IfThere l = next_base64_if_there l
 next_ending origin E.Names l = next_names origin l
 next_ending origin E.Parameters l = next_parameters l
+next_ending origin E.Types l = next_type_map l
+next_ending origin E.Location l = next_location l
 
 -- these octets, and then those that are read
 abbrev pub behind : List ℕ → Reading (List ℕ) → Reading (List ℕ)

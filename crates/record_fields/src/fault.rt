@@ -133,6 +133,9 @@ pub enum Reason {
     /// A word that is no parameter of a service beside those before it, or parameters that lack another.
     #[error("{0}")]
     Parameter(ParameterFault),
+    /// Words that aren't a location.
+    #[error("a location is needed here, as 60 9 0.000 N 24 39 0.000 E 10.00m 20m 2000m 20m")]
+    Location,
     /// Data that are longer than a record can have.
     #[error("data of more than 65535 octets")]
     TooLong,

@@ -70,6 +70,10 @@ pub enum Ending {
     Names,
     /// Parameters of a service, none or more (RFC 9460 section 2).
     Parameters,
+    /// Types of records, none or more, as a type bit map (RFC 4034 section 4.1.2).
+    Types,
+    /// A location of 16 octets (RFC 1876 section 2).
+    Location,
 }
 
 impl Fields {

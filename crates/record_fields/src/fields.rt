@@ -133,8 +133,8 @@ pub fn read_record_type(alloc: Global, word: &[u8]) -> Result<Option<RecordType>
     }
 }
 
-/// Whether a type is in messages alone, so that no records have it.
-fn is_of_messages(record_type: RecordType) -> bool
+/// Whether a type is in messages alone, so that no records have it: 0, OPT, and those from 128 to 255 (RFC 6895 section 3.1).
+pub fn is_of_messages(record_type: RecordType) -> bool
     ensures { result ≡ is_of_messages record_type.0 }
 {
     let number = record_type.0;

@@ -9,23 +9,28 @@ mod fault;
 mod field;
 mod fields;
 mod hosts;
+mod lines;
+mod locations;
 mod names;
 mod parameters;
 mod parts;
 mod rows;
 mod table;
 mod texts;
+mod type_lists;
 mod words;
 
 pub use fault::{Fault, ReadError, Reason};
 pub use field::{Ending, Field, Fields};
 pub use fields::{
-    read_record_type, take_algorithm, take_ipv4, take_ipv6, take_moment, take_timer, take_ttl,
-    take_type, take_u8, take_u16, take_u32,
+    is_of_messages, read_record_type, take_algorithm, take_ipv4, take_ipv6, take_moment,
+    take_timer, take_ttl, take_type, take_u8, take_u16, take_u32,
 };
+pub use locations::{Axis, LATITUDE, LONGITUDE, read_location};
 pub use names::take_name;
 pub use parts::is_tag;
 pub use rows::take_row;
 pub use table::{ROWS, Row, row_of};
 pub use texts::{take_base64, take_generic};
+pub use type_lists::take_types;
 pub use words::Words;

@@ -8,6 +8,7 @@ use crate::fault::ReadError;
 use crate::field::{Ending, Field, Fields};
 use crate::fields::{take_algorithm, take_ipv4, take_u8, take_u16, take_u32};
 use crate::hosts::{push_gateway, push_identity, push_relay};
+use crate::lines::push_location;
 use crate::names::{push_name, push_names};
 use crate::parameters::push_parameters;
 use crate::parts::{
@@ -19,6 +20,7 @@ use crate::texts::{
     push_base64, push_base64_if_there, push_hex, push_octets, push_string, push_string_if_there,
     push_strings,
 };
+use crate::type_lists::push_type_map;
 use crate::words::Words;
 use std::alloc::Global;
 use zone_proto::Name;
@@ -100,5 +102,7 @@ fn push_ending(
         Ending::Base64IfThere => push_base64_if_there(alloc, words, out),
         Ending::Names => push_names(alloc, origin, words, out),
         Ending::Parameters => push_parameters(alloc, words, out),
+        Ending::Types => push_type_map(alloc, words, out),
+        Ending::Location => push_location(alloc, words, out),
     }
 }

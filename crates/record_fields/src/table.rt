@@ -3,7 +3,10 @@ ghost use Rattle.std.specs.Prelude.{◌≡◌, option_copied};
 ghost use Rattle.record_fields.specs.Rows.{row_of};
 
 use crate::field::{Ending, Field, Fields};
-use Ending::{Base64, Base64IfThere, Hex, Names, Nothing, Octets, Parameters, TextIfThere, Texts};
+use Ending::{
+    Base64, Base64IfThere, Hex, Location, Names, Nothing, Octets, Parameters, TextIfThere, Texts,
+    Types,
+};
 use Field::{
     Algorithm, CertificateType, DigestType, Eui48, Eui64, Gateway, Groups, Identity, Ipv4, Name,
     Number8, Number16, Number32, Relay, Tag, Text,
@@ -16,7 +19,7 @@ pub struct Row(pub u16, pub Fields, pub Ending);
 
 /// The types whose data are read and printed field by field, by their numbers. The data of any other type are parts of `RData`, or
 /// are read as `\#` alone.
-pub const ROWS: [Row; 53] = [
+pub const ROWS: [Row; 58] = [
     // MD, MF, MB, MG, MR, PTR (RFC 1035 section 3.3), NSAP-PTR (RFC 1348), DNAME (RFC 6672 section 2.1)
     Row(3, One(Name), Nothing),
     Row(4, One(Name), Nothing),
@@ -81,6 +84,14 @@ pub const ROWS: [Row; 53] = [
     Row(45, Two(Number8, Gateway), Base64IfThere),
     Row(260, Two(Number8, Relay), Nothing),
     Row(55, One(Identity), Names),
+    // LOC (RFC 1876 section 2)
+    Row(29, NoField, Location),
+    // CSYNC (RFC 7477 section 2.1)
+    Row(62, Two(Number32, Number16), Types),
+    // EID, NIMLOC, SINK
+    Row(31, NoField, Hex),
+    Row(32, NoField, Hex),
+    Row(40, Three(Number8, Number8, Number8), Base64IfThere),
     // SVCB, HTTPS (RFC 9460 section 2.2)
     Row(64, Two(Number16, Name), Parameters),
     Row(65, Two(Number16, Name), Parameters),

@@ -1,4 +1,3 @@
 pub mod DataFacts
 pub mod InputFacts
-pub mod TypeFacts
 pub mod ZoneFacts

@@ -1,7 +1,6 @@
 -- The data of NSEC, NSEC3 and NSEC3PARAM records in the form of their standards (RFC 4034 section 4.2, RFC 5155 sections 3.3
 -- and 4.3)
-use Rattle.std.specs.Prelude.{ℕ, ◌==◌, List, [], ◌∷◌, length, nat_le, Bool, Option, Some, None, option_map, option_and_then, Result, Ok, Err, if◌then◌else◌}
-use Rattle.std.specs.Ordering.{match_ordering, nat_cmp}
+use Rattle.std.specs.Prelude.{ℕ, ◌==◌, List, [], ◌∷◌, length, nat_le, Bool, Option, Some, None, option_map, option_and_then, Ok, Err, if◌then◌else◌}
 use Rattle.zone_proto.specs.declared.rdata.denial.NSEC.{NSEC as DenialData}
 use Rattle.zone_proto.specs.declared.rdata.denial.NSEC3.{NSEC3 as HashedData}
 use Rattle.zone_proto.specs.declared.rdata.denial.NSEC3PARAM.{NSEC3PARAM as HashParameters}
@@ -13,34 +12,11 @@ use Rattle.zone_scanner.specs.declared.place.Place.{Place}
 use Rattle.zone_scanner.specs.Entries.{WordText}
 use Rattle.zone_tokens.specs.Base32.{base32_octets}
 use Rattle.record_fields.specs.declared.fault.Reason.TheVariants as reason
-use Rattle.record_fields.specs.declared.fault.Fault.{Fault}
-use Rattle.record_fields.specs.Readings.{fault, or_else_fault, ◌>>=◌}
-use Rattle.record_fields.specs.Fields.{Left, Reading, left_at, next, next_name, next_u8, next_u16, record_type_named}
+use Rattle.record_fields.specs.Readings.{fault, ◌>>=◌}
+use Rattle.record_fields.specs.Fields.{Left, Reading, next, next_name, next_u8, next_u16}
+use Rattle.record_fields.specs.TypeLists.{next_types, types_at}
 
--- the types that words name, in their order
-abbrev pub types_named : List WordText → Result (List RecordType) Fault
-types_named [] = Ok []
-types_named (w ∷ ws) =
-    or_else_fault (record_type_named w.octets) (fault w.place reason.Type) >>= λ t. (types_named ws >>= λ ts. Ok (t ∷ ts))
-
--- a type at its place among others, which ascend, unless it is there
-abbrev pub with_type : RecordType → List RecordType → List RecordType
-with_type t [] = t ∷ []
-with_type t (u ∷ us) = match_ordering (nat_cmp t.0 u.0) (t ∷ u ∷ us) (u ∷ us) (u ∷ with_type t us)
-
--- types in ascending order, each once, as data have them (RFC 4034 section 4.1.2)
-abbrev pub ascending : List RecordType → List RecordType
-ascending [] = []
-ascending (t ∷ ts) = with_type t (ascending ts)
-
--- the types to the end of the entry
-abbrev pub types_at : Place → List WordText → Reading (List RecordType)
-types_at p ws = types_named ws >>= λ ts. Ok (ascending ts, left_at p [])
-
-abbrev pub next_types : Left → Reading (List RecordType)
-next_types l = types_at l.place l.words
-
--- the same where there has to be one
+-- the types to the end of the entry, where there has to be one
 abbrev pub some_types_at : Place → List WordText → Reading (List RecordType)
 some_types_at p [] = Err (fault p reason.Missing)
 some_types_at p (w ∷ ws) = types_at p (w ∷ ws)

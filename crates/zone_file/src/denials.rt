@@ -2,15 +2,12 @@
 ghost use Rattle.std.specs.Prelude.{◌≡◌, IfOk, option_map};
 ghost use Rattle.record_fields.specs.Readings.{Gives};
 ghost use Rattle.record_fields.specs.Fields.{Left};
-ghost use Rattle.zone_file.specs.Denials.{ascending, hash_of_word, if_countable, if_hash, next_hash, next_nsec, next_nsec3, next_nsec3param, next_opt_out, next_salt, next_some_types, next_types, opt_out_of_word, salt_of_word, types_named};
+ghost use Rattle.zone_file.specs.Denials.{hash_of_word, if_countable, if_hash, next_hash, next_nsec, next_nsec3, next_nsec3param, next_opt_out, next_salt, next_some_types, opt_out_of_word, salt_of_word};
 
 use line_text::read_u8;
-use record_fields::{
-    Fault, ReadError, Reason, Words, read_record_type, take_name, take_u8, take_u16,
-};
+use record_fields::{ReadError, Reason, Words, take_name, take_types, take_u8, take_u16};
 use std::alloc::{AllocError, Global};
 use zone_proto::{NSEC, NSEC3, NSEC3PARAM, Name, RecordType, Seq};
-use zone_scanner::Word;
 use zone_tokens::{read_base32, read_salt};
 
 /// Takes the parts of an NSEC.
@@ -141,16 +138,7 @@ fn if_hash(octets: Vec<u8>) -> Option<Vec<u8>>
     }
 }
 
-/// Takes types to the end of the entry, in any order, and gives them ascending, each once.
-fn take_types(alloc: Global, words: &mut Words<'_>) -> Result<Vec<RecordType>, ReadError>
-    ensures { Gives (λ ts. (ts.items, words.new)) result (next_types words.old) }
-{
-    let rest = words.take_rest();
-    let types = read_types(alloc, rest)?;
-    Ok(ascending(types))
-}
-
-/// The same, and refuses an entry that names none.
+/// Takes types to the end of the entry, and refuses an entry that names none.
 fn take_some_types(alloc: Global, words: &mut Words<'_>) -> Result<Vec<RecordType>, ReadError>
     ensures { Gives (λ ts. (ts.items, words.new)) result (next_some_types words.old) }
 {
@@ -158,30 +146,4 @@ fn take_some_types(alloc: Global, words: &mut Words<'_>) -> Result<Vec<RecordTyp
         return Err(words.fault(Reason::Missing));
     }
     Ok(take_types(alloc, words)?)
-}
-
-/// The types that words name, in their order.
-fn read_types(alloc: Global, words: &[Word]) -> Result<Vec<RecordType>, ReadError>
-    ensures { Gives (λ ts. ts.items) result (types_named words.now) }
-{
-    let mut types = Vec::new(alloc);
-    for word in words {
-        let Some(record_type) = read_record_type(alloc, word.octets())? else {
-            return Err(ReadError::Fault(Fault {
-                place: word.place(),
-                reason: Reason::Type,
-            }));
-        };
-        types.push(record_type)?;
-    }
-    Ok(types)
-}
-
-/// Types in ascending order, each once.
-fn ascending(mut types: Vec<RecordType>) -> Vec<RecordType>
-    ensures { result.items ≡ ascending types.items }
-{
-    types.sort_unstable();
-    types.dedup();
-    types
 }

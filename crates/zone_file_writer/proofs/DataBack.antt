@@ -1,11 +1,9 @@
 -- What is printed of data is read as these data, whatever the origin is.
-use Rattle.std.proofs.Common.{◌≡◌, ◌≢◌, ◌≤◌, ◌<◌, ℕ, ◌+◌, ◌==◌, List, [], ◌∷◌, ◌++◌, map, length, Bool, true, false, cond, ◌||◌, ◌&&◌, None, Some, Ok, refl, sym, ap, subst, ◌∙◌, arith, append-nil, codes, Less}
+use Rattle.std.proofs.Common.{◌≡◌, ◌≢◌, ◌≤◌, ◌<◌, ℕ, ◌+◌, ◌==◌, List, [], ◌∷◌, ◌++◌, map, length, Bool, true, false, cond, ◌||◌, ◌&&◌, None, Some, Ok, refl, sym, ap, subst, ◌∙◌, arith, append-nil, codes}
 use Rattle.std.specs.Prelude.{nat_le, nat_lt, not, unwrap_or}
 use Rattle.std.specs.Fmt.{decimal}
-use Rattle.std.specs.Cmp.{nat_cmp_is}
 use Rattle.std.specs.Int.{w32, cast_unsigned}
 use Rattle.std.specs.List.{list_all, list_any, AllByRecursion}
-use Rattle.std.specs.Ordering.{match_ordering}
 use Rattle.std.proofs.lemmas.Bool.Decides.{leb_tells, nat_tests}
 use Rattle.std.proofs.lemmas.Fmt.{decimal_is_IsNumeral}
 use Rattle.std.specs.Str.Parse.{AllDigits}
@@ -41,7 +39,7 @@ use Rattle.line_text.proofs.PrintedWords.{and_both}
 use Rattle.line_text.proofs.RoundTrips.{decimal_read, hex_read}
 use Rattle.zone_scanner.specs.declared.place.Place.{Place}
 use Rattle.record_fields.specs.Fields.{Left, Reading, left_at, next_name}
-use Rattle.zone_file.specs.Denials.{next_nsec, next_nsec3, next_nsec3param, salt_of_word, ascending, some_types_at, types_at, types_named, with_type, opt_out_of_word}
+use Rattle.zone_file.specs.Denials.{next_nsec, next_nsec3, next_nsec3param, salt_of_word, some_types_at, opt_out_of_word}
 use Rattle.zone_file.specs.Data.{data_size, read_as, next_data, next_other, next_own, next_own_octets, next_soa, next_mx, next_srv}
 use Rattle.zone_file.proofs.DataFacts.{other_made}
 use Rattle.zone_file.specs.Keys.{next_dnskey, next_rrsig}
@@ -61,7 +59,8 @@ use Rattle.zone_file_writer.proofs.OwnFirst.{decimal_own, first_own, digits_firs
 use Rattle.zone_file_writer.proofs.RowsBack.{IsForm, own, any, other_form}
 use Rattle.zone_file_writer.proofs.Base32Back.{hash_back}
 use Rattle.zone_file_writer.proofs.Base64Facts.{base64_back}
-use Rattle.zone_file_writer.proofs.DataTexts.{none_left, type_texts, data_words}
+use Rattle.zone_file_writer.proofs.DataTexts.{none_left, data_words}
+use Rattle.zone_file_writer.proofs.TypesBack.{type_own, type_texts, types_read}
 
 name_data : (make : Name → RData) (origin n : Name) (q p : Place) → IsName n
     → read_as make (next_name origin (left q p (Bare (name_text n) ∷ []))) ≡ Ok (make n, none_left q p (Bare (name_text n) ∷ []))
@@ -126,22 +125,6 @@ signature_read origin d q p h =
       base64_back d.signature h.octets,
     )
     refl
-
-ascending_types : (least : ℕ) (ts : List RecordType) → AreTypesFrom least ts → ascending ts ≡ ts
-ascending_types least [] h = refl
-ascending_types least (t ∷ ts) h = ap (with_type t) (ascending_types (t.0 + 1) ts h.2) ∙ first t ts h.2
-  where
-    first : (t : RecordType) (ts : List RecordType) → AreTypesFrom (t.0 + 1) ts → with_type t ts ≡ t ∷ ts
-    first t [] h = refl
-    first t (u ∷ us) h = ap (λ r. match_ordering r (t ∷ u ∷ us) (u ∷ us) (u ∷ with_type t us)) (sym (nat_cmp_is t.0 u.0 Less (omega (arith, h.0))))
-
-types_named_back : (least : ℕ) (ts : List RecordType) (p : Place) → AreTypesFrom least ts → types_named (words_from p (type_texts ts)) ≡ Ok ts
-types_named_back least [] p h = refl
-types_named_back least (t ∷ ts) p h =
-    rw (type_back t h.1, types_named_back (t.0 + 1) ts (behind p (Bare (type_word t.0))) h.2) refl
-
-types_read : (q p : Place) (ts : List RecordType) → AreTypesFrom 0 ts → types_at q (words_from p (type_texts ts)) ≡ Ok (ts, left_at q [])
-types_read q p ts h = rw (types_named_back 0 ts p h, ascending_types 0 ts h) refl
 
 some_types_read : (q p : Place) (ts : List RecordType) → 0 < length ts → AreTypesFrom 0 ts
     → some_types_at q (words_from p (type_texts ts)) ≡ Ok (ts, left_at q [])
@@ -243,25 +226,6 @@ six_own bs (b ∷ c ∷ d ∷ t) e = by (b == 92) (c == 35)
 
 ipv6_own : (bs : List ℕ) → length bs ≡ 16 → AllByRecursion (λ b. b < 256) bs → same_octets (address_text bs) generic ≡ false
 ipv6_own bs l h = six_own bs (address_text bs) (address_back bs l h)
-
-listed_first : (t : ℕ) (other : List ℕ) (ws : List Word) → list_all (λ w. not (same_octets w.text generic)) ws ≡ true → same_octets other generic ≡ false
-    → same_octets (unwrap_or (word_of t ws) other) generic ≡ false
-listed_first t other [] all h = h
-listed_first t other (w ∷ ws) all h =
-    let both = and_both (not (same_octets w.text generic)) (list_all (λ v. not (same_octets v.text generic)) ws) all in
-    by (t == w.number) (denied (same_octets w.text generic) both.0) (listed_first t other ws both.1 h)
-  where
-    denied : (b : Bool) → not b ≡ true → b ≡ false
-    denied true e = sym e
-    denied false e = refl
-
-    by : (b : Bool) → same_octets w.text generic ≡ false → same_octets (unwrap_or (word_of t ws) other) generic ≡ false
-        → same_octets (unwrap_or (cond b (Some w.text) (word_of t ws)) other) generic ≡ false
-    by true this more = this
-    by false this more = more
-
-type_own : (t : ℕ) → same_octets (type_word t) generic ≡ false
-type_own t = listed_first t (type_text t) further_words refl (listed_first t (codes "TYPE" ++ decimal t) type_words refl refl)
 
 -- data in their own form
 abbrev OwnRead : RData → Type 0

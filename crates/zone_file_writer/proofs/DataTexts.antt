@@ -30,6 +30,7 @@ use Rattle.zone_file_writer.proofs.WordTexts.{backslash_ordinary, decimal_text, 
 use Rattle.zone_file_writer.proofs.NumbersBack.{unsigned_small}
 use Rattle.zone_file_writer.proofs.PlacedWords.{behind, last_from}
 use Rattle.zone_file_writer.proofs.RowsBack.{IsForm, own, any, other_form}
+use Rattle.zone_file_writer.proofs.TypesBack.{type_texts, types_are_texts}
 use Rattle.zone_file_writer.proofs.Base32Back.{base32_is_text}
 use Rattle.zone_file_writer.proofs.Base64Facts.{base64_is_text}
 
@@ -37,9 +38,6 @@ abbrev pub none_left : Place → Place → List PrintedWord → Left
 none_left q p us = left_at (last_from q p us) []
 
 -- ---- the words of data
-
-abbrev pub type_texts : List RecordType → List PrintedWord
-type_texts ts = map (λ t. Bare (type_word t.0)) ts
 
 abbrev pub data_words : RData → List PrintedWord
 data_words (V.A a) = Bare (ipv4_text a) ∷ []
@@ -90,10 +88,6 @@ text_is (V.RRSIG d) h = refl
 text_is (V.Other d) h = refl
 
 -- ---- they are texts of words
-
-types_are_texts : (least : ℕ) (ts : List RecordType) → AreTypesFrom least ts → AreWordTexts (type_texts ts)
-types_are_texts least [] h = tt
-types_are_texts least (t ∷ ts) h = (type_is_text t.0 h.1.range, types_are_texts (t.0 + 1) ts h.2)
 
 key_text_is : (m : List ℕ) → AllByRecursion (λ b. b < 256) m → m ≢ [] → IsBareText (base64_text m)
 key_text_is [] h some = absurd (some refl)

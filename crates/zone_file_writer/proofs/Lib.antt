@@ -12,6 +12,8 @@ pub mod HostsBack
 pub mod Ipv6Back
 pub mod LabelFacts
 pub mod Lines
+pub mod LocationTexts
+pub mod LocationsBack
 pub mod NameLengths
 pub mod NamesBack
 pub mod NumbersBack
@@ -25,4 +27,6 @@ pub mod RowTexts
 pub mod RowsBack
 pub mod SpacedWords
 pub mod StringFacts
+pub mod TypeTexts
+pub mod TypesBack
 pub mod WordTexts

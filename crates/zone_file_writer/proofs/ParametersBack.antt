@@ -103,7 +103,7 @@ pub record IsPrinted (os : List ℕ) (ts : List (List ℕ)) : Type 0 where
 number_Decides : (a b : ℕ) → Decides (a == b) (a ≡ b)
 number_Decides a b = (λ e. eqb-true a b e, λ e. eq-eqb a b e)
 
-same : (xs ys : List ℕ) → same_octets xs ys ≡ true → xs ≡ ys
+pub same : (xs ys : List ℕ) → same_octets xs ys ≡ true → xs ≡ ys
 same xs ys h = (slice_eq-Decides number_Decides xs ys (same_octets xs ys) refl).0 h
 
 pub parameters_back : (os : List ℕ) (ts : List (List ℕ)) → are_read os (read_texts [] ts) ≡ true → IsPrinted os ts

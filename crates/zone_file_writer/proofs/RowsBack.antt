@@ -1,11 +1,16 @@
 -- Data of types that have a row in the table, printed field by field, are read as their octets.
-use Rattle.std.proofs.Common.{◌≡◌, ◌≢◌, ◌<◌, ℕ, zero, suc, List, [], ◌∷◌, ◌++◌, map, length, Bool, true, false, cond, Option, Some, None, Ok, Result, refl, sym, ap, subst, ◌∙◌, append-nil}
+use Rattle.std.proofs.Common.{◌≡◌, ◌≢◌, ◌<◌, ℕ, zero, suc, List, [], ◌∷◌, ◌++◌, map, length, Bool, true, false, cond, ◌&&◌, Option, Some, None, Ok, Result, refl, sym, ap, subst, ◌∙◌, append-nil}
 use Rattle.std.specs.Prelude.{option_map}
 use Rattle.std.specs.List.{flat_map}
 use Rattle.base64.specs.Engines.{standard}
 use Rattle.base64.specs.GeneralPurpose.{decoded_of}
+use Rattle.line_text.proofs.PrintedWords.{and_both}
+use Rattle.zone_proto.specs.declared.record_type.RecordType.{RecordType}
+use Rattle.zone_proto.specs.Data.{same_octets}
 use Rattle.zone_proto.specs.Names.{Name}
 use Rattle.message_reading.specs.Octets.{◌>>=◌, counted_of}
+use Rattle.message_reading.specs.TypeMaps.{types_of}
+use Rattle.message_writing.specs.DataText as maps
 use Rattle.zone_scanner.specs.declared.place.Place.{Place}
 use Rattle.zone_tokens.specs.Hex.{hex_text}
 use Rattle.record_fields.specs.declared.field.Field.{Field}
@@ -13,26 +18,33 @@ use Rattle.record_fields.specs.declared.field.Ending.{Ending}
 use Rattle.record_fields.specs.declared.field.Ending.TheVariants as E
 use Rattle.record_fields.specs.declared.table.Row.{Row}
 use Rattle.record_fields.specs.Fields.{Reading, left_at}
+use Rattle.record_fields.specs.Locations.{location_of_line}
 use Rattle.record_fields.specs.Rows.{fields_of, next_ending, next_fields, row_of}
 use Rattle.record_fields.specs.Texts as words
 use Rattle.record_fields.specs.Texts.{is_generic}
 use Rattle.zone_file.specs.Data.{by_row, next_own_octets}
 use Rattle.zone_file_writer.specs.Labels.{labels_of}
+use Rattle.zone_file_writer.specs.declared.locations.Location.{Location}
+use Rattle.zone_file_writer.specs.Locations as locations
+use Rattle.zone_file_writer.specs.Locations.{is_octets, line_text, location_front, location_texts}
 use Rattle.zone_file_writer.specs.Others.{base64_text, hex_digits, octets_words, string_word}
 use Rattle.zone_file_writer.specs.Parameters.{are_read, if_read, read_texts, texts_within}
 use Rattle.zone_file_writer.specs.Rows.{all_strings, ending_words, field_words, fields_words, name_front, name_word, names_within, other_words, row_words, some_words, string_alone, words_by_row, words_or_octets}
 use Rattle.zone_file_writer.specs.Strings.{strings_of, strings_within}
+use Rattle.zone_file_writer.specs.TypeLists.{ascend_from, if_map_of}
 use Rattle.zone_file_writer.specs.Words.{PrintedWord, Bare}
 use Rattle.zone_file_writer.proofs.Base64Facts.{base64_back, base64_is_text, base64_own}
 use Rattle.zone_file_writer.proofs.FieldsBack.{AreOctets, IsBack, IsBackIf, IsNameFront, IsNameFrontIf, IsStringFrontIf, is_filled, name_cut, simple_back, string_back, string_cut}
 use Rattle.zone_file_writer.proofs.HostsBack.{gateway_back, identity_back, relay_back}
 use Rattle.zone_file_writer.proofs.Lines.{AreWordTexts, words_from}
+use Rattle.zone_file_writer.proofs.LocationsBack.{location_back}
 use Rattle.zone_file_writer.proofs.NamesBack.{first_of_name, name_there}
 use Rattle.zone_file_writer.proofs.NumbersBack.{digits_back}
-use Rattle.zone_file_writer.proofs.ParametersBack.{parameters_back}
+use Rattle.zone_file_writer.proofs.ParametersBack.{parameters_back, same}
 use Rattle.zone_file_writer.proofs.PlacedWords.{behind, last_from, left, place_from}
 use Rattle.zone_file_writer.proofs.StringFacts.{AreStrings, counted, joined_strings, strings_in, text_back}
 use Rattle.zone_file_writer.proofs.OwnFirst.{hex_own}
+use Rattle.zone_file_writer.proofs.TypesBack.{type_own, type_texts, types_are_texts, types_ascend, types_read}
 use Rattle.zone_file_writer.proofs.WordTexts.{digits_are_text, name_is_text, quoted_is_text}
 
 -- octets are read, and no word is left
@@ -186,6 +198,44 @@ parameters_form origin os = by (texts_within (length os) os)
     by None = tt
     by (Some ts) = at ts (are_read os (read_texts [] ts)) refl
 
+-- types to the end
+types_form : (origin : Name) (os : List ℕ) → IsRowBackIf origin [] E.Types os (ending_words E.Types os)
+types_form origin os = by (types_of os)
+  where
+    own : (ts : List RecordType) (p : Place) → is_generic (words_from p (type_texts ts)) ≡ false
+    own [] p = refl
+    own (t ∷ ts) p = type_own t.0
+
+    at : (ts : List RecordType) (b : Bool) → (ascend_from 0 ts && same_octets (maps.types_text ts) os) ≡ b
+        → IsRowBackIf origin [] E.Types os (cond b (Some (type_texts ts)) None)
+    at ts false e = tt
+    at ts true e =
+        let both = and_both (ascend_from 0 ts) (same_octets (maps.types_text ts) os) e in
+        let are = types_ascend 0 ts both.0 in
+        record {
+          texts = types_are_texts 0 ts are;
+          own = own ts;
+          read = λ q p. record { place = q; is = rw (types_read q p ts are, same (maps.types_text ts) os both.1) refl };
+        }
+
+    by : (o : Option (List RecordType)) → IsRowBackIf origin [] E.Types os (o >>= if_map_of os)
+    by None = tt
+    by (Some ts) = at ts (ascend_from 0 ts && same_octets (maps.types_text ts) os) refl
+
+location_form : (origin : Name) (os : List ℕ) → AreOctets os → IsRowBackIf origin [] E.Location os (ending_words E.Location os)
+location_form origin os h = by (location_front os) refl
+  where
+    at : (p : Location) → location_front os ≡ Some p → (b : Bool) → is_octets os (location_of_line (line_text (location_texts p))) ≡ b
+        → IsRowBackIf origin [] E.Location os (cond b (Some (map Bare (location_texts p))) None)
+    at p e false g = tt
+    at p e true g =
+        let back = location_back os p h e g in
+        record { texts = back.texts; own = back.own; read = λ q r. record { place = q; is = back.read q r } }
+
+    by : (o : Option Location) → location_front os ≡ o → IsRowBackIf origin [] E.Location os (o >>= λ p. locations.if_read os (location_texts p))
+    by None e = tt
+    by (Some p) e = at p e (is_octets os (location_of_line (line_text (location_texts p)))) refl
+
 ending_back : (origin : Name) (e : Ending) (os : List ℕ) → AreOctets os → IsRowBackIf origin [] e os (ending_words e os)
 ending_back origin E.Nothing os h = nothing_back origin os
 ending_back origin E.Texts os h = texts_back origin os h
@@ -196,6 +246,8 @@ ending_back origin E.Base64 os h = base64_form origin os h
 ending_back origin E.Base64IfThere os h = base64_form_if_there origin os h
 ending_back origin E.Names os h = names_form origin os h
 ending_back origin E.Parameters os h = parameters_form origin os
+ending_back origin E.Types os h = types_form origin os
+ending_back origin E.Location os h = location_form origin os h
 
 -- ---- rows
 

@@ -72,7 +72,7 @@ in_word (b ∷ t) h = h
 
 -- ---- digits
 
-digit_harmless : (d : ℕ) → d < 10 → IsHarmless (48 + d)
+pub digit_harmless : (d : ℕ) → d < 10 → IsHarmless (48 + d)
 digit_harmless d h = harmless (48 + d) (omega arith) (grind (arith, nat_tests)) (grind (arith, nat_tests))
 
 pub value_harmless : (c : ℕ) → digit_value c < 10 → IsHarmless c

@@ -1,6 +1,7 @@
 pub mod Addresses
 pub mod BareWords
 pub mod Labels
+pub mod Locations
 pub mod Laws
 pub mod Moments
 pub mod Parameters
@@ -9,4 +10,5 @@ pub mod Printable
 pub mod Printing
 pub mod Rows
 pub mod Strings
+pub mod TypeLists
 pub mod Words

@@ -16,9 +16,11 @@ use Rattle.record_fields.specs.Parts.{is_tag}
 use Rattle.record_fields.specs.Rows.{fields_of, row_of}
 use Rattle.zone_file_writer.specs.Addresses.{address_text}
 use Rattle.zone_file_writer.specs.Labels.{is_wire_form, labels_of}
+use Rattle.zone_file_writer.specs.Locations.{location_words}
 use Rattle.zone_file_writer.specs.Others.{base64_text, hex_digits, octets_words, string_word}
 use Rattle.zone_file_writer.specs.Parameters.{parameters_words}
 use Rattle.zone_file_writer.specs.Strings.{escaped, strings_of}
+use Rattle.zone_file_writer.specs.TypeLists.{types_words}
 use Rattle.zone_file_writer.specs.Words.{PrintedWord, Bare, word_text}
 
 -- one word of what was read at the front
@@ -156,6 +158,8 @@ ending_words E.Base64IfThere [] = Some []
 ending_words E.Base64IfThere (b ∷ os) = Some (Bare (base64_text (b ∷ os)) ∷ [])
 ending_words E.Names os = names_within (length os) os
 ending_words E.Parameters os = parameters_words os
+ending_words E.Types os = types_words os
+ending_words E.Location os = location_words os
 
 -- fields, one behind the other, and what stands behind them
 abbrev pub fields_words : List Field → Ending → List ℕ → Option (List PrintedWord)

@@ -38,10 +38,14 @@ further_words =
     ∷ record { number = 25; text = codes "KEY" }
     ∷ record { number = 26; text = codes "PX" }
     ∷ record { number = 27; text = codes "GPOS" }
+    ∷ record { number = 29; text = codes "LOC" }
+    ∷ record { number = 31; text = codes "EID" }
+    ∷ record { number = 32; text = codes "NIMLOC" }
     ∷ record { number = 35; text = codes "NAPTR" }
     ∷ record { number = 36; text = codes "KX" }
     ∷ record { number = 37; text = codes "CERT" }
     ∷ record { number = 39; text = codes "DNAME" }
+    ∷ record { number = 40; text = codes "SINK" }
     ∷ record { number = 44; text = codes "SSHFP" }
     ∷ record { number = 45; text = codes "IPSECKEY" }
     ∷ record { number = 49; text = codes "DHCID" }
@@ -54,6 +58,7 @@ further_words =
     ∷ record { number = 59; text = codes "CDS" }
     ∷ record { number = 60; text = codes "CDNSKEY" }
     ∷ record { number = 61; text = codes "OPENPGPKEY" }
+    ∷ record { number = 62; text = codes "CSYNC" }
     ∷ record { number = 63; text = codes "ZONEMD" }
     ∷ record { number = 64; text = codes "SVCB" }
     ∷ record { number = 65; text = codes "HTTPS" }

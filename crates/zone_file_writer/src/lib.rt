@@ -10,6 +10,7 @@ mod fronts;
 mod hosts;
 mod labels;
 pub mod laws;
+mod locations;
 mod moments;
 mod octets;
 mod other;
@@ -20,6 +21,7 @@ mod rows;
 mod signing;
 mod start_of_authority;
 mod strings;
+mod type_lists;
 mod types;
 
 pub use record::MasterText;

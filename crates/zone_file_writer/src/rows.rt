@@ -7,9 +7,11 @@ use crate::fields::{
     push_tag,
 };
 use crate::hosts::{push_gateway, push_identity, push_relay};
+use crate::locations::push_location;
 use crate::octets::{Base64Text, HexText};
 use crate::parameters::push_parameters;
 use crate::strings::{FurtherStrings, QuotedText, split_string, split_strings};
+use crate::type_lists::push_type_list;
 use record_fields::{Ending, Field, Row};
 use std::alloc::{AllocError, Global};
 use std::fmt::Write;
@@ -92,6 +94,8 @@ fn push_ending(
         Ending::Base64IfThere => push_base64_if_there(octets, text),
         Ending::Names => push_names(octets, text),
         Ending::Parameters => push_parameters(alloc, octets, text),
+        Ending::Types => push_type_list(alloc, octets, text),
+        Ending::Location => push_location(alloc, octets, text),
     }
 }
 

@@ -24,7 +24,7 @@ impl fmt::Display for TypeText {
 }
 
 /// The words of the types that have a row in the table of `record_fields`, where `RecordType` has none.
-const FURTHER_WORDS: [(u16, &str); 51] = [
+const FURTHER_WORDS: [(u16, &str); 56] = [
     (3, "MD"),
     (4, "MF"),
     (7, "MB"),
@@ -42,10 +42,14 @@ const FURTHER_WORDS: [(u16, &str); 51] = [
     (25, "KEY"),
     (26, "PX"),
     (27, "GPOS"),
+    (29, "LOC"),
+    (31, "EID"),
+    (32, "NIMLOC"),
     (35, "NAPTR"),
     (36, "KX"),
     (37, "CERT"),
     (39, "DNAME"),
+    (40, "SINK"),
     (44, "SSHFP"),
     (45, "IPSECKEY"),
     (49, "DHCID"),
@@ -58,6 +62,7 @@ const FURTHER_WORDS: [(u16, &str); 51] = [
     (59, "CDS"),
     (60, "CDNSKEY"),
     (61, "OPENPGPKEY"),
+    (62, "CSYNC"),
     (63, "ZONEMD"),
     (64, "SVCB"),
     (65, "HTTPS"),

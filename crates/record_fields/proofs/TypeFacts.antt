@@ -17,7 +17,7 @@ use Rattle.zone_proto.proofs.Ordering.Orders.{IsOrder, Side, before, same, after
 use Rattle.zone_scanner.specs.Entries.{WordText}
 use Rattle.record_fields.specs.declared.fault.Reason.TheVariants as reason
 use Rattle.record_fields.specs.declared.fault.Fault.{Fault}
-use Rattle.zone_file.specs.Denials.{ascending, types_named, with_type}
+use Rattle.record_fields.specs.TypeLists.{ascending, types_named, with_type}
 use Rattle.record_fields.specs.Fields.{record_type_named}
 use Rattle.record_fields.specs.Readings.{fault, or_else_fault, ◌>>=◌}
 

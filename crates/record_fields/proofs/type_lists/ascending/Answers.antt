@@ -1,6 +1,6 @@
 use Rattle.std.proofs.Common.{◌≡◌}
-use Rattle.zone_file.proofs.TypeFacts.{sorted_once}
-use Rattle.zone_file.proofs.denials.ascending.Goals as goal
+use Rattle.record_fields.proofs.TypeFacts.{sorted_once}
+use Rattle.record_fields.proofs.type_lists.ascending.Goals as goal
 
 pub returns : goal.returns
 returns c =

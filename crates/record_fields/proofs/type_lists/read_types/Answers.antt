@@ -1,9 +1,9 @@
 use Rattle.std.proofs.Common.{rules, ◌≡◌, ◌+◌, Some, drop, ◌∷◌, sym, ap, ◌∙◌}
 use Rattle.std.proofs.lemmas.List.{drop_more}
-use Rattle.zone_file.specs.Denials.{types_named}
+use Rattle.record_fields.specs.TypeLists.{types_named}
 use Rattle.record_fields.specs.Fields.{record_type_named}
-use Rattle.zone_file.proofs.TypeFacts.{one_type_more}
-use Rattle.zone_file.proofs.denials.read_types.Goals as goal
+use Rattle.record_fields.proofs.TypeFacts.{one_type_more}
+use Rattle.record_fields.proofs.type_lists.read_types.Goals as goal
 
 pub loop-word-preserved : goal.loop-word-preserved
 loop-word-preserved c =
