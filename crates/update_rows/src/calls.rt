@@ -2,6 +2,7 @@
 
 use crate::messages::{message_answer, response_answer};
 use crate::policy::{permit_answer, read_rule, unsigned_answer};
+use crate::signing::{denials_answer, overtaken_answer, sign_answer, signed_update_answer};
 use crate::updating::{ask_answer, back_answer, scarce_answer, unsigned_ask_answer, update_answer};
 use crate::versions::since_answer;
 use line_text::{TextError, Words, read_name, read_record};
@@ -10,7 +11,7 @@ use update_policy::Rule;
 use zone_difference::Difference;
 use zone_history::Version;
 use zone_map::RecordMap;
-use zone_proto::{DNSClass, Name};
+use zone_proto::{DNSClass, Name, NxProofKind};
 
 /// What the rows so far have made.
 #[derive(Drop)]
@@ -21,6 +22,8 @@ pub struct Case {
     pub zone: RecordMap,
     /// Those before the last update, and what that changed.
     pub last: Option<(RecordMap, Difference)>,
+    /// How it denies once it is signed.
+    pub kind: NxProofKind,
     /// The versions that it had, the oldest one first.
     pub versions: Vec<Version>,
     /// The table of rules.
@@ -34,6 +37,7 @@ impl Case {
             origin: Name::root(alloc),
             zone: RecordMap::new(alloc),
             last: None,
+            kind: NxProofKind::Nsec,
             versions: Vec::new(alloc),
             rules: Vec::new(alloc),
         }
@@ -50,6 +54,10 @@ pub fn answer(alloc: Global, case: &mut Case, call: &str) -> Result<String, Allo
         "ask" => ask_answer(alloc, case, words),
         "ask-unsigned" => unsigned_ask_answer(alloc, case, words),
         "back" => back_answer(alloc, case),
+        "denials" => denials_answer(alloc, case, words),
+        "sign" => sign_answer(alloc, case),
+        "signed-update" => signed_update_answer(alloc, case, words),
+        "overtaken" => overtaken_answer(alloc, case, words),
         "since" => since_answer(alloc, case, words),
         "scarce" => scarce_answer(alloc, case, words),
         "rule" => rule_answer(alloc, case, words),

@@ -11,6 +11,9 @@
 //!   by its number) and a type, and then `data` and these; or `empty` for none, or `unread` for data that aren't read;
 //! - `back` applies the difference of the last update backwards to the zone, which is then the one before: whether it is;
 //! - `since SERIAL` tells how many versions of the zone who has the one of a serial lacks, and what they changed together, or `none`;
+//! - `denials nsec|nsec3|opt-out` chooses how the zone denies, `sign` signs it by one key; `signed-update ENTRY; ..` updates it so signed, and
+//!   `overtaken ENTRY; ..` prepares such an update twice before both are committed. The owners and types of the sets for which signatures are
+//!   made are told, each before a semicolon, and then `made`;
 //! - `scarce ENTRY; ..` makes the same update of the zone with no memory left, and then with a little more each time: whether memory was
 //!   refused, and the code in the end; the zone stays as it is;
 //! - `rule grant|deny KEY SCOPE NAME TYPE ..` adds a rule to a table; the scopes are `name`, `subdomain`, `own-name` and `own-subdomain`;
@@ -27,6 +30,7 @@ mod entries;
 mod messages;
 mod policy;
 mod rows;
+mod signing;
 mod updating;
 mod versions;
 

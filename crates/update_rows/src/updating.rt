@@ -80,7 +80,7 @@ fn exchange(
 }
 
 /// The word of a refusal (RFC 2136 section 2.2).
-fn code_word(refusal: Refusal) -> &'static str {
+pub fn code_word(refusal: Refusal) -> &'static str {
     match refusal {
         Refusal::FormErr => "FORMERR",
         Refusal::NXDomain => "NXDOMAIN",
