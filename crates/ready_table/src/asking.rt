@@ -5,13 +5,13 @@ ghost use Rattle.zone_server.specs.declared.transport.Transport.TheVariants.{Udp
 ghost use Rattle.zone_server.specs.Limits.{limit_for};
 ghost use Rattle.ready_table.specs.Ready.{AreReady, IsInside, IsReady};
 
-use crate::limits::{DATAGRAM_SIZE, said_by};
+use crate::limits::said_by;
 use crate::questions::HEADER;
 use crate::table::ReadyTable;
 use message_reading::{Query, question_of, read_query};
 use std::alloc::{AllocError, Global};
 use zone_proto::{LowerName, RecordType};
-use zone_server::{ServedZones, Transport, answer, limit_for};
+use zone_server::{DATAGRAM_SIZE, ServedZones, Transport, answer, limit_for};
 
 /// How the queries come that are asked at loading: over UDP, by a way that takes what the server sends.
 pub(crate) const WAY: Transport = Transport::Udp {

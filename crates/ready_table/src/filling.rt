@@ -4,14 +4,13 @@ ghost use Rattle.zone_response.specs.Queries.{zone_of, Zone};
 ghost use Rattle.ready_table.specs.Ready.{AreReady};
 
 use crate::asking::{ask, keep};
-use crate::limits::DATAGRAM_SIZE;
 use crate::questions::write_query;
 use crate::table::ReadyTable;
 use std::alloc::{AllocError, Global};
 use zone_map::RecordMap;
 use zone_proto::{LowerName, Nsec3Hash, RecordType, Signer};
 use zone_response::ServedZone;
-use zone_server::{ListedZones, ServedZones};
+use zone_server::{DATAGRAM_SIZE, ListedZones, ServedZones};
 
 /// Text (RFC 1035 section 3.3.14).
 const TXT: RecordType = RecordType(16);

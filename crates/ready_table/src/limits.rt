@@ -1,12 +1,8 @@
-//! How many octets a datagram has, and what a query says by EDNS.
+//! What a query says by EDNS.
 ghost use Rattle.std.specs.Prelude.{◌≡◌, true};
 ghost use Rattle.ready_answers.specs.Again.{said_by};
 
 use message_reading::Query;
-
-/// How many octets the server sends in one datagram: the 1,280 that every link of IPv6 takes whole (RFC 8200 section 5),
-/// without the 48 of the headers of IPv6 and UDP.
-pub(crate) const DATAGRAM_SIZE: u16 = 1_232;
 
 /// What a query says by EDNS that its response repeats: whether there is an OPT record (RFC 6891 section 6.1.1), and its DO
 /// bit (RFC 3225 section 3).

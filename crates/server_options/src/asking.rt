@@ -7,10 +7,7 @@ use crate::arrival::Arrival;
 use message_cookies::{CheckedCookie, CookieSecrets, check_cookie};
 use message_options::{COOKIE, NSID, option_value};
 use message_reading::octets_of;
-use zone_server::Transport;
-
-/// How many octets the server sends in one datagram at most, as `zone_server` does.
-const DATAGRAM_SIZE: u16 = 1_232;
+use zone_server::{DATAGRAM_SIZE, Transport};
 
 /// How many octets a header has (RFC 1035 section 4.1.1).
 const HEADER: usize = 12;

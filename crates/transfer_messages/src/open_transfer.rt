@@ -8,10 +8,7 @@ use message_reading::Query;
 use std::alloc::{AllocError, Global};
 use std::collections::BTreeMap;
 use zone_proto::{RecordSet, ResponseCode, RrKey};
-use zone_server::send_code;
-
-/// How many octets the server takes in one datagram, which it says by the OPT record of a response.
-const DATAGRAM_SIZE: u16 = 1_232;
+use zone_server::{DATAGRAM_SIZE, send_code};
 
 /// How many octets a message has at most before it is signed: 65,535 without the 358 that a TSIG has at most.
 const ROOM: u16 = 65_177;

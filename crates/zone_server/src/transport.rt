@@ -6,7 +6,7 @@ use message_reading::Query;
 
 /// How many octets the server sends in one datagram, and says that it takes: the 1,280 that every link of IPv6 takes whole (RFC
 /// 8200 section 5), without the 48 of the headers of IPv6 and UDP.
-pub(crate) const DATAGRAM_SIZE: u16 = 1_232;
+pub const DATAGRAM_SIZE: u16 = 1_232;
 
 /// How a query came, and how its response goes.
 #[derive(Clone, Copy, PartialEq, Eq, Debug)]
