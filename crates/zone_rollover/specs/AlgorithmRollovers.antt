@@ -12,7 +12,7 @@ use Rattle.zone_rollover.specs.declared.steps.Due.{Due}
 use Rattle.zone_rollover.specs.declared.steps.Step.TheVariants as Step
 use Rattle.zone_rollover.specs.declared.steps.Wait.TheVariants as Wait
 use Rattle.zone_rollover.specs.declared.timing.Timing.{Timing}
-use Rattle.zone_rollover.specs.declared.timing.TheConstants.{LAST_MOMENT}
+use Rattle.zone_signing.specs.Signatures.{last_moment}
 use Rattle.zone_rollover.specs.declared.algorithm_rollover.AlgorithmStage.{AlgorithmStage}
 use Rattle.zone_rollover.specs.declared.algorithm_rollover.AlgorithmStage.TheVariants.{Initial, NewRrsigs, NewDnskey, DsSubmitted, DsSeen, DnskeyRemoved, RrsigsRemoved}
 use Rattle.zone_rollover.specs.KeyUses.{wanted_ds, either_or_both}
@@ -87,15 +87,15 @@ stage_after (RrsigsRemoved a d s p r e) moment = RrsigsRemoved a d s p r e
 -- each step was taken when it might be
 abbrev pub is_timed : Timing → AlgorithmStage → Bool
 is_timed timing Initial = true
-is_timed timing (NewRrsigs a) = nat_le a LAST_MOMENT
-is_timed timing (NewDnskey a d) = nat_le (a + sets_wait timing) d && nat_le d LAST_MOMENT
-is_timed timing (DsSubmitted a d s) = nat_le (a + sets_wait timing) d && (nat_le (d + keys_wait timing) s && nat_le s LAST_MOMENT)
-is_timed timing (DsSeen a d s p) = nat_le (a + sets_wait timing) d && (nat_le (d + keys_wait timing) s && (nat_le s p && nat_le p LAST_MOMENT))
+is_timed timing (NewRrsigs a) = nat_le a last_moment
+is_timed timing (NewDnskey a d) = nat_le (a + sets_wait timing) d && nat_le d last_moment
+is_timed timing (DsSubmitted a d s) = nat_le (a + sets_wait timing) d && (nat_le (d + keys_wait timing) s && nat_le s last_moment)
+is_timed timing (DsSeen a d s p) = nat_le (a + sets_wait timing) d && (nat_le (d + keys_wait timing) s && (nat_le s p && nat_le p last_moment))
 is_timed timing (DnskeyRemoved a d s p r) =
-    nat_le (a + sets_wait timing) d && (nat_le (d + keys_wait timing) s && (nat_le s p && (nat_le (p + ds_wait timing) r && nat_le r LAST_MOMENT)))
+    nat_le (a + sets_wait timing) d && (nat_le (d + keys_wait timing) s && (nat_le s p && (nat_le (p + ds_wait timing) r && nat_le r last_moment)))
 is_timed timing (RrsigsRemoved a d s p r e) =
     nat_le (a + sets_wait timing) d
-    && (nat_le (d + keys_wait timing) s && (nat_le s p && (nat_le (p + ds_wait timing) r && (nat_le (r + keys_wait timing) e && nat_le e LAST_MOMENT))))
+    && (nat_le (d + keys_wait timing) s && (nat_le s p && (nat_le (p + ds_wait timing) r && (nat_le (r + keys_wait timing) e && nat_le e last_moment))))
 
 -- ---- its past
 

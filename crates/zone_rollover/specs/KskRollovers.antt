@@ -10,7 +10,7 @@ use Rattle.zone_rollover.specs.declared.steps.Due.{Due}
 use Rattle.zone_rollover.specs.declared.steps.Step.TheVariants as Step
 use Rattle.zone_rollover.specs.declared.steps.Wait.TheVariants as Wait
 use Rattle.zone_rollover.specs.declared.timing.Timing.{Timing}
-use Rattle.zone_rollover.specs.declared.timing.TheConstants.{LAST_MOMENT}
+use Rattle.zone_signing.specs.Signatures.{last_moment}
 use Rattle.zone_rollover.specs.declared.ksk_rollover.KskStage.{KskStage}
 use Rattle.zone_rollover.specs.declared.ksk_rollover.KskStage.TheVariants.{Initial, NewDnskey, DsSubmitted, DsSeen, DnskeyRemoved}
 use Rattle.zone_rollover.specs.KeyUses.{wanted_ds, either_or_both}
@@ -59,10 +59,10 @@ stage_after (DnskeyRemoved d s p r) moment = DnskeyRemoved d s p r
 -- each step was taken when it might be
 abbrev pub is_timed : Timing → KskStage → Bool
 is_timed timing Initial = true
-is_timed timing (NewDnskey d) = nat_le d LAST_MOMENT
-is_timed timing (DsSubmitted d s) = nat_le (d + keys_wait timing) s && nat_le s LAST_MOMENT
-is_timed timing (DsSeen d s p) = nat_le (d + keys_wait timing) s && (nat_le s p && nat_le p LAST_MOMENT)
-is_timed timing (DnskeyRemoved d s p r) = nat_le (d + keys_wait timing) s && (nat_le s p && (nat_le (p + ds_wait timing) r && nat_le r LAST_MOMENT))
+is_timed timing (NewDnskey d) = nat_le d last_moment
+is_timed timing (DsSubmitted d s) = nat_le (d + keys_wait timing) s && nat_le s last_moment
+is_timed timing (DsSeen d s p) = nat_le (d + keys_wait timing) s && (nat_le s p && nat_le p last_moment)
+is_timed timing (DnskeyRemoved d s p r) = nat_le (d + keys_wait timing) s && (nat_le s p && (nat_le (p + ds_wait timing) r && nat_le r last_moment))
 
 -- ---- its past
 

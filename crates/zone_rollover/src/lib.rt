@@ -19,6 +19,6 @@ pub use algorithm_rollover::{AlgorithmRollover, AlgorithmStage};
 pub use key_use::{Generation, Key, KeyUse, Role, UsedKey};
 pub use ksk_rollover::{KskRollover, KskStage};
 pub use steps::{Due, Step, StepFault, Wait};
-pub use timing::{LAST_MOMENT, Timing};
+pub use timing::Timing;
 pub use wholeness::is_whole;
 pub use zsk_rollover::{ZskRollover, ZskStage};

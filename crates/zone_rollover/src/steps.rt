@@ -2,8 +2,8 @@
 ghost use Rattle.std.specs.Prelude.{◌≡◌};
 ghost use Rattle.zone_rollover.specs.Steps.{allowed};
 
-use crate::timing::LAST_MOMENT;
 use thiserror::Error;
+use zone_signing::signatures::LAST_MOMENT;
 
 /// A step of a rollover, named after the stage that it leads to (RFC 6781 section 4.1).
 #[derive(Clone, Copy, PartialEq, Eq, Debug)]
@@ -54,7 +54,7 @@ pub enum StepFault {
     /// It is too early: the step may be taken from a moment on, in seconds since 1970.
     #[error("this step may be taken from the second {0} on")]
     TooEarly(u64),
-    /// The moment is past the year 9999.
+    /// The moment is past the year 9999, as no signature is made past it.
     #[error("the moment is past the year 9999")]
     TooLate,
     /// The rollover is over.

@@ -2,9 +2,6 @@
 ghost use Rattle.std.specs.Prelude.{◌≡◌, ◌+◌, ◌≤◌, IfSome, OnSome, IfNone, ◌<◌};
 ghost use Rattle.zone_rollover.specs.Waits.{keys_wait, sets_wait, ds_wait};
 
-/// The last second of the year 9999, in seconds since 1970: no step is taken past it, as no signature is made past it.
-pub const LAST_MOMENT: u64 = 253402300799;
-
 /// The TTLs and delays that a rollover has to wait for, in seconds (RFC 7583 section 2.2): of each the greatest that holds while
 /// it lasts.
 #[derive(Clone, Copy, PartialEq, Eq, Debug)]
