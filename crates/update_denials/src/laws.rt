@@ -1,8 +1,8 @@
 //! Laws of updates of signed zones. Each is an empty function whose contract is the law, so a program has no need to call one.
 ghost use Rattle.update_denials.specs.Laws.{UpdatedIsNsec3Chain, UpdatedIsNsecChain, UpdatedNsec3SetsStay};
 
-/// A zone with NSEC has a closed chain of them after each update that is prepared and committed, whoever signs (RFC 4035 section 2.3). So
-/// what is proved of the responses of such a zone holds for it: each proves what it says.
+/// A zone with NSEC has a closed chain of them after each update that is prepared, once what was left blank is signed, by whoever and with
+/// whatever octets (RFC 4035 section 2.3). This is said of its sets alone, and not of its responses.
 pub fn updated_zones_are_nsec_chains()
     ensures { UpdatedIsNsecChain }
 {}
