@@ -22,7 +22,8 @@ pub struct ZoneDatabase {
 }
 
 impl ZoneDatabase {
-    ghost use Rattle.std.specs.Prelude.{◌≡◌, ◌≢◌, [], IfOk, IsTrue, Ok, OnOk, OnErr, map, option_copied};
+    ghost use Rattle.std.specs.Prelude.{◌≡◌, ◌≢◌, [], IfOk, IsTrue, Ok, OnOk, OnErr, map, option_copied, option_map};
+    ghost use Rattle.std.specs.Arc.{arc_value};
     ghost use Rattle.std.specs.List.{find};
     ghost use Rattle.message_reading.specs.Queries.{query_of};
     ghost use Rattle.zone_server.specs.Answers.{IsAnswer, IsResponseTo, SaysWhether};
@@ -47,6 +48,20 @@ impl ZoneDatabase {
         match self.zones.get(origin) {
             Some(stored) => Some(stored.zone()),
             None => None,
+        }
+    }
+
+    /// The zone of an origin, shared: it stays as it is, whatever is put in its place or taken out. Fails only for lack of memory.
+    pub fn share(&self, origin: &LowerName) -> Result<Option<Arc<Zone>>, AllocError>
+        ensures { IfOk result (λ zone. option_map arc_value zone
+            ≡ find (begins_at origin.now) (zones_in self.now)) }
+    {
+        match self.zones.get(origin) {
+            Some(stored) => {
+                let zone = stored.share_zone()?;
+                Ok(Some(zone))
+            }
+            None => Ok(None),
         }
     }
 

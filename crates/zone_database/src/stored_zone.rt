@@ -50,6 +50,13 @@ impl StoredZone {
         &self.zone
     }
 
+    /// The zone, shared.
+    pub(crate) fn share_zone(&self) -> Result<Arc<Zone>, AllocError>
+        ensures { IfOk result (λ zone. arc_value zone ≡ self.now) }
+    {
+        Ok(Arc::try_clone(&self.zone)?)
+    }
+
     /// The same zone and answers, shared.
     pub(crate) fn share(&self) -> Result<StoredZone, AllocError>
         ensures { IfOk result (λ other. other ≡ self.now) }
