@@ -62,7 +62,7 @@ def flags(folder):
 # its parameter, as one call takes two.
 WORDS = {
     "Global": "alloc",
-    "&mut Handle": "&mut {}",
+    "&mut DatabaseHandle": "&mut {}",
     "&mut PlanHandle": "&mut {}",
     "&Signing": "&how",
     "&[u8]": "&text",
@@ -77,7 +77,7 @@ WORDS = {
 PROGRAM = """
 fn main(rt: HostRuntime) -> std::process::ExitCode {{
     let alloc = rt.alloc();
-    let (mut zones, mut other, mut plan) = (Handle::empty(alloc), Handle::empty(alloc), PlanHandle::empty(alloc));
+    let (mut zones, mut other, mut plan) = (DatabaseHandle::empty(alloc), DatabaseHandle::empty(alloc), PlanHandle::empty(alloc));
     let how = Signing {{ inception: 0, expiration: 0, jitter: 0, key_ttl: 0, denial: 0, iterations: 0, asks_parent: 0 }};
     let (text, mut room, mut written, mut serial) = ([0u8; 8], [0u8; 8], 0usize, 0u32);
     let settings = ServerSettings {{ nsid: &text, secrets: &text, cookies_required: 0 }};

@@ -21,7 +21,7 @@ CLIENT, SUMMARY = "crates/arrival_calls/src/client.rt", "crates/arrival_calls/sr
 # What a parameter is in C. The allocator is none there, since it takes no octets.
 KINDS = {
     "Global": [],
-    "&mut Handle": ["nk_zones *"],
+    "&mut DatabaseHandle": ["nk_zones *"],
     "&mut PlanHandle": ["nk_plan *"],
     "&Signing": ["const nk_signing *"],
     "&[u8]": ["const uint8_t *", "size_t"],

@@ -15,7 +15,8 @@ use Rattle.zone_database.specs.declared.database.ZoneDatabase.{ZoneDatabase}
 use Rattle.zone_database.specs.declared.outcome.Outcome.{Outcome}
 use Rattle.zone_database.specs.declared.outcome.Outcome.TheVariants.{Ignored, Closed, NoMemory, BadTransport}
 use Rattle.zone_database.specs.declared.zone.Zone.{Zone}
-use Rattle.zone_database.specs.Calls.{transport_of, IsGiven, IsUntouched}
+use Rattle.call_handles.specs.Rooms.{IsUntouched}
+use Rattle.zone_database.specs.Calls.{transport_of, IsGiven}
 use Rattle.zone_database.specs.Databases.{zones_in}
 use Rattle.zone_database.specs.Zones.{served_zone}
 use Rattle.arrival_calls.specs.declared.client.ClientMessage.{ClientMessage}

@@ -1,6 +1,5 @@
 //! Messages answered with options from the zones that a handle holds.
-ghost use Rattle.std.specs.Prelude.{◌≡◌, ◌≤◌, length};
-ghost use Rattle.zone_database.specs.Calls.{IsGiven, StandsIn};
+ghost use Rattle.std.specs.Prelude.{◌≡◌};
 ghost use Rattle.zone_database.specs.Databases.{zones_in};
 ghost use Rattle.arrival_calls.specs.ArrivalCalls.{AnswersArrivalHeld, IsArrivalAnswered};
 
@@ -8,7 +7,7 @@ use crate::responding::FromDatabase;
 use crate::summary_numbers::{SummaryNumbers, numbers_of};
 use server_options::{Arrival, ServerOptions, answer_arrival as answer_with_options};
 use std::alloc::Global;
-use zone_database::{Handle, Outcome, ZoneDatabase};
+use zone_database::{DatabaseHandle, Outcome, ZoneDatabase, give};
 
 /// How many octets a response has room for before more is taken.
 const FIRST_BUFFER: usize = 512;
@@ -21,7 +20,7 @@ const FIRST_BUFFER: usize = 512;
 /// `summary` stays. The room stays as it was after anything but `Done`.
 pub(crate) fn answer_arrival(
     alloc: Global,
-    zones: &mut Handle,
+    zones: &mut DatabaseHandle,
     options: &ServerOptions<'_>,
     arrival: &Arrival<'_>,
     buffer: &mut [u8],
@@ -41,7 +40,7 @@ pub(crate) fn answer_arrival(
 /// The same, with the length of the response and what it was beside how the call ended.
 fn answer_held(
     alloc: Global,
-    zones: &mut Handle,
+    zones: &mut DatabaseHandle,
     options: &ServerOptions<'_>,
     arrival: &Arrival<'_>,
     buffer: &mut [u8],
@@ -87,24 +86,4 @@ fn answer_from(
         }
         Err(_) => (Outcome::NoMemory, 0, before),
     }
-}
-
-/// Writes a response into the room, unless it is longer than that, and gives its length beside how this ended.
-fn give(octets: &[u8], buffer: &mut [u8]) -> (Outcome, usize)
-    ensures { IsGiven octets.now result.0 result.1 buffer.old buffer.new }
-{
-    if buffer.len() < octets.len() {
-        return (Outcome::NoRoom, octets.len());
-    }
-    write_front(octets, buffer);
-    (Outcome::Done, octets.len())
-}
-
-/// Writes octets at the beginning of the room.
-fn write_front(octets: &[u8], buffer: &mut [u8])
-    requires { length octets.now ≤ length buffer.old }
-    ensures { StandsIn octets.now buffer.old buffer.new }
-{
-    let (front, _) = buffer.split_at_mut(octets.len());
-    front.copy_from_slice(octets);
 }

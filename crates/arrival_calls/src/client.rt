@@ -1,6 +1,5 @@
 //! Messages of clients, as a program that isn't written in Rattle hands them over.
 ghost use Rattle.std.specs.Prelude.{◌≡◌};
-ghost use Rattle.zone_database.specs.Calls.{transport_of};
 ghost use Rattle.arrival_calls.specs.ArrivalCalls.{AnswersClient, arrival_of, options_of};
 
 use crate::answering::answer_arrival;
@@ -8,7 +7,8 @@ use crate::secrets::secrets_of;
 use crate::summary_numbers::SummaryNumbers;
 use server_options::{Arrival, ServerOptions};
 use std::alloc::Global;
-use zone_database::{Handle, Outcome};
+use zone_database::calls::transport_of;
+use zone_database::{DatabaseHandle, Outcome};
 use zone_server::Transport;
 
 /// What a server answers by options.
@@ -48,7 +48,7 @@ pub struct ClientMessage<'a> {
 /// is none of a transport: then `written` is 0, and `summary` stays. The room stays as it was after anything but `Done`.
 pub fn answer_client(
     alloc: Global,
-    zones: &mut Handle,
+    zones: &mut DatabaseHandle,
     settings: &ServerSettings<'_>,
     message: &ClientMessage<'_>,
     buffer: &mut [u8],
@@ -88,18 +88,5 @@ fn arrival_of<'a>(message: &ClientMessage<'a>, transport: Transport) -> Arrival<
         address: message.address,
         moment: (message.moment % 4_294_967_296) as u32,
         transport,
-    }
-}
-
-/// The transport of a number.
-fn transport_of(limit: usize, number: u32) -> Option<Transport>
-    ensures { result ≡ transport_of limit number }
-{
-    match number {
-        0 => Some(Transport::Udp {
-            limit: limit.min(65_535) as u16,
-        }),
-        1 => Some(Transport::Tcp),
-        _ => None,
     }
 }

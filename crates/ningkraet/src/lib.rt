@@ -12,7 +12,7 @@ ghost use Rattle.plan_calls.specs.Outcomes.{Codes as PlanCodes};
 use arrival_calls::{ClientMessage, ServerSettings, SummaryNumbers, answer_client};
 use plan_calls::{PlanHandle, Signing, calls as plans};
 use std::alloc::Global;
-use zone_database::{Handle, calls};
+use zone_database::{DatabaseHandle, calls};
 
 /// The number of the interface. It grows where a call or a code changes or goes.
 #[unsafe(no_mangle)]
@@ -24,7 +24,7 @@ pub extern "C" fn nk_interface() -> u32
 
 /// Makes a database without zones in place of what is kept.
 #[unsafe(no_mangle)]
-pub extern "C" fn nk_zones_new(alloc: Global, zones: &mut Handle) -> u32
+pub extern "C" fn nk_zones_new(alloc: Global, zones: &mut DatabaseHandle) -> u32
     ensures { Codes result (λ o. IsCreated [] zones.old.held o zones.new.held) }
 {
     calls::create(alloc, zones).code()
@@ -33,7 +33,11 @@ pub extern "C" fn nk_zones_new(alloc: Global, zones: &mut Handle) -> u32
 /// Has another hold the same zones, in place of what it holds. They are in memory once, and each of the two has others
 /// put in and taken out by itself.
 #[unsafe(no_mangle)]
-pub extern "C" fn nk_zones_copy(alloc: Global, zones: &mut Handle, other: &mut Handle) -> u32
+pub extern "C" fn nk_zones_copy(
+    alloc: Global,
+    zones: &mut DatabaseHandle,
+    other: &mut DatabaseHandle,
+) -> u32
     ensures copied { Codes result (λ o.
         AsksHeld (λ zs end. IsCreated zs other.old.held end other.new.held)
         (other.new.held ≡ other.old.held) zones.old.held o) }
@@ -44,7 +48,7 @@ pub extern "C" fn nk_zones_copy(alloc: Global, zones: &mut Handle, other: &mut H
 
 /// Gives the memory of what is kept back. Nothing is kept then.
 #[unsafe(no_mangle)]
-pub extern "C" fn nk_zones_free(alloc: Global, zones: &mut Handle)
+pub extern "C" fn nk_zones_free(alloc: Global, zones: &mut DatabaseHandle)
     ensures { zones.new.held ≡ None }
 {
     calls::free(alloc, zones)
@@ -55,7 +59,7 @@ pub extern "C" fn nk_zones_free(alloc: Global, zones: &mut Handle)
 #[unsafe(no_mangle)]
 pub extern "C" fn nk_zones_load(
     alloc: Global,
-    zones: &mut Handle,
+    zones: &mut DatabaseHandle,
     origin: &[u8],
     text: &[u8],
     buffer: &mut [u8],
@@ -73,7 +77,7 @@ pub extern "C" fn nk_zones_load(
 #[unsafe(no_mangle)]
 pub extern "C" fn nk_zones_add(
     alloc: Global,
-    zones: &mut Handle,
+    zones: &mut DatabaseHandle,
     origin: &[u8],
     text: &[u8],
     buffer: &mut [u8],
@@ -88,7 +92,7 @@ pub extern "C" fn nk_zones_add(
 
 /// Takes the zone of an origin out.
 #[unsafe(no_mangle)]
-pub extern "C" fn nk_zones_drop(alloc: Global, zones: &mut Handle, origin: &[u8]) -> u32
+pub extern "C" fn nk_zones_drop(alloc: Global, zones: &mut DatabaseHandle, origin: &[u8]) -> u32
     ensures { Codes result (λ o.
         ChangesHeld (IsDropped origin.now) zones.old.held o zones.new.held) }
 {
@@ -97,7 +101,7 @@ pub extern "C" fn nk_zones_drop(alloc: Global, zones: &mut Handle, origin: &[u8]
 
 /// Keeps the answers that the zone of an origin gives most, as the octets that go out. No zone and no answer changes.
 #[unsafe(no_mangle)]
-pub extern "C" fn nk_zones_prepare(alloc: Global, zones: &mut Handle, origin: &[u8]) -> u32
+pub extern "C" fn nk_zones_prepare(alloc: Global, zones: &mut DatabaseHandle, origin: &[u8]) -> u32
     ensures { Codes result (λ o.
         ChangesHeld (IsPrepared origin.now) zones.old.held o zones.new.held) }
 {
@@ -108,7 +112,7 @@ pub extern "C" fn nk_zones_prepare(alloc: Global, zones: &mut Handle, origin: &[
 #[unsafe(no_mangle)]
 pub extern "C" fn nk_zones_serial(
     alloc: Global,
-    zones: &mut Handle,
+    zones: &mut DatabaseHandle,
     origin: &[u8],
     serial: &mut u32,
 ) -> u32
@@ -124,7 +128,7 @@ pub extern "C" fn nk_zones_serial(
 #[unsafe(no_mangle)]
 pub extern "C" fn nk_zones_answer(
     alloc: Global,
-    zones: &mut Handle,
+    zones: &mut DatabaseHandle,
     _now: u64,
     query: &[u8],
     limit: usize,
@@ -144,7 +148,7 @@ pub extern "C" fn nk_zones_answer(
 #[unsafe(no_mangle)]
 pub extern "C" fn nk_zones_answer_client(
     alloc: Global,
-    zones: &mut Handle,
+    zones: &mut DatabaseHandle,
     settings: &ServerSettings<'_>,
     message: &ClientMessage<'_>,
     buffer: &mut [u8],
@@ -163,7 +167,7 @@ pub extern "C" fn nk_zones_answer_client(
 pub extern "C" fn nk_plan_begin(
     alloc: Global,
     plan: &mut PlanHandle,
-    zones: &mut Handle,
+    zones: &mut DatabaseHandle,
     origin: &[u8],
     keys: &[u8],
     how: &Signing,
@@ -211,7 +215,11 @@ pub extern "C" fn nk_plan_sign(alloc: Global, plan: &mut PlanHandle, signature: 
 
 /// Puts the signed zone in place of the one that was planned, and gives the memory of the plan back.
 #[unsafe(no_mangle)]
-pub extern "C" fn nk_plan_finish(alloc: Global, plan: &mut PlanHandle, zones: &mut Handle) -> u32
+pub extern "C" fn nk_plan_finish(
+    alloc: Global,
+    plan: &mut PlanHandle,
+    zones: &mut DatabaseHandle,
+) -> u32
     ensures { PlanCodes result (λ o.
         FinishesHeld plan.old.held zones.old.held o plan.new.held zones.new.held) }
 {

@@ -1,5 +1,2 @@
 pub mod CallFacts
-pub mod Handles
-pub mod RawBoxes
 pub mod Steps
-pub mod Walking

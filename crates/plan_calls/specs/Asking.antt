@@ -1,7 +1,7 @@
 -- What is handed out of a plan to be signed, and what is given
 use Rattle.std.specs.Prelude.{◌≡◌, ◌<◌, ◌++◌, ℕ, List, [], ◌∷◌, length, drop, slice_get, Option, Some, None}
 use Rattle.zone_planning.specs.Frames.{Asked}
-use Rattle.zone_database.specs.Calls.{IsUntouched, StandsIn}
+use Rattle.call_handles.specs.Rooms.{IsUntouched, StandsIn}
 use Rattle.held_plans.specs.PlanStates.{PlanState}
 use Rattle.plan_calls.specs.declared.outcome.PlanOutcome.{PlanOutcome}
 use Rattle.plan_calls.specs.declared.outcome.PlanOutcome.TheVariants.{Done, NoMemory, NoRoom, NoMore}

@@ -10,11 +10,10 @@ use crate::outcome::PlanOutcome;
 use crate::signing::{Signing, kind_of, request_of};
 use held_plans::{HeldPlan, read_keys};
 use std::alloc::Global;
-use zone_database::{Zone, ZoneDatabase};
+use zone_database::{Outcome, Zone, ZoneDatabase, origin_of as named_origin};
 use zone_planner::planned_by_flags;
 use zone_planning::PlanFault;
-use zone_proto::{DNSKEY, LowerName, Name, NxProofKind, ProtoError};
-use zone_tokens::read_name_under;
+use zone_proto::{DNSKEY, LowerName, Name, NxProofKind};
 
 /// The plan of the zone of an origin, which is to be signed by these keys.
 #[tactic(auto, using(crate::proofs::Steps::unnamed, crate::proofs::Steps::no_zone, crate::proofs::Steps::unkeyed, crate::proofs::Steps::undenied, crate::proofs::Steps::unplanned, crate::proofs::Steps::begun))]
@@ -58,10 +57,10 @@ fn origin_of(alloc: Global, origin: &[u8]) -> Result<Name, PlanOutcome>
     ensures refusal { IfErr result
         (λ o. (o ≡ NoMemory) ⊎ ((o ≡ BadName) × IsErr (origin_of origin.now))) }
 {
-    match read_name_under(alloc, &Name::root(alloc), origin) {
+    match named_origin(alloc, origin) {
         Ok(name) => Ok(name),
-        Err(ProtoError::Memory) => Err(PlanOutcome::NoMemory),
-        Err(_) => Err(PlanOutcome::BadName),
+        Err(Outcome::BadName) => Err(PlanOutcome::BadName),
+        Err(_) => Err(PlanOutcome::NoMemory),
     }
 }
 

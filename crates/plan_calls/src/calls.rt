@@ -1,6 +1,5 @@
 //! What a program that isn't written in Rattle asks of a plan: the calls of `ningkraet`.
-ghost use Rattle.std.specs.Prelude.{◌≡◌, ◌⊎◌, ◌≤◌, length, None, Some};
-ghost use Rattle.zone_database.specs.Calls.{StandsIn};
+ghost use Rattle.std.specs.Prelude.{◌≡◌, ◌⊎◌, None, Some};
 ghost use Rattle.zone_database.specs.Databases.{zones_in};
 ghost use Rattle.plan_calls.specs.Asking.{GivesNext, TakesSignature};
 ghost use Rattle.plan_calls.specs.Calls.{BeginsHeld, FinishesHeld, GivesHeld, IsBegunIn, IsInstalled, TakesHeld};
@@ -10,17 +9,17 @@ use crate::finishing::install;
 use crate::handle::PlanHandle;
 use crate::outcome::PlanOutcome;
 use crate::signing::Signing;
+use call_handles::write_front;
 use held_plans::HeldPlan;
 use std::alloc::Global;
-use std::mem;
-use zone_database::{Handle, ZoneDatabase};
+use zone_database::{DatabaseHandle, ZoneDatabase};
 
 /// Plans the zone of an origin, which is to be signed by these keys, in place of what the handle of the plan holds. If it is refused,
 /// that stays. No zone changes.
 #[tactic(auto, using(crate::proofs::CallFacts::begun_held))]
 pub fn begin(
     alloc: Global,
-    zones: &mut Handle,
+    zones: &mut DatabaseHandle,
     plan: &mut PlanHandle,
     origin: &[u8],
     keys: &[u8],
@@ -140,15 +139,6 @@ fn hand_out(
     PlanOutcome::Done
 }
 
-/// Writes octets at the beginning of the room.
-fn write_front(octets: &[u8], buffer: &mut [u8])
-    requires { length octets.now ≤ length buffer.old }
-    ensures { StandsIn octets.now buffer.old buffer.new }
-{
-    let (front, _) = buffer.split_at_mut(octets.len());
-    front.copy_from_slice(octets);
-}
-
 /// Takes the next signature.
 #[tactic(auto, using(crate::proofs::CallFacts::takes_held))]
 pub fn sign(alloc: Global, plan: &mut PlanHandle, signature: &[u8]) -> PlanOutcome
@@ -176,7 +166,7 @@ fn take_in(alloc: Global, held: &mut HeldPlan, signature: &[u8]) -> PlanOutcome
 
 /// Puts the signed zone in place of the one that was planned, and gives the memory of the plan back. If it is refused, the zones and the
 /// plan are as before.
-pub fn finish(alloc: Global, plan: &mut PlanHandle, zones: &mut Handle) -> PlanOutcome
+pub fn finish(alloc: Global, plan: &mut PlanHandle, zones: &mut DatabaseHandle) -> PlanOutcome
     ensures { FinishesHeld plan.old.held zones.old.held result plan.new.held zones.new.held }
 {
     match plan.take(alloc) {
@@ -191,7 +181,7 @@ fn finish_held(
     alloc: Global,
     plan: &mut PlanHandle,
     held: Box<HeldPlan>,
-    zones: &mut Handle,
+    zones: &mut DatabaseHandle,
 ) -> PlanOutcome
     requires { plan.old.held ≡ None }
     ensures { FinishesHeld (Some held.value) zones.old.held result plan.new.held zones.new.held }
@@ -207,7 +197,11 @@ fn finish_held(
 
 /// Puts the zone of a plan among those that a handle holds.
 #[tactic(auto, using(crate::proofs::CallFacts::installed))]
-fn install_held(alloc: Global, held: &HeldPlan, zones: &mut Handle) -> Result<(), PlanOutcome>
+fn install_held(
+    alloc: Global,
+    held: &HeldPlan,
+    zones: &mut DatabaseHandle,
+) -> Result<(), PlanOutcome>
     ensures { IsInstalled held.now zones.old.held result zones.new.held }
 {
     match zones.take(alloc) {
@@ -224,5 +218,5 @@ fn install_held(alloc: Global, held: &HeldPlan, zones: &mut Handle) -> Result<()
 pub fn free(alloc: Global, plan: &mut PlanHandle)
     ensures { plan.new.held ≡ None }
 {
-    drop(mem::replace(plan, PlanHandle::empty(alloc)));
+    plan.clear(alloc);
 }

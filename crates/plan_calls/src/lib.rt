@@ -7,7 +7,6 @@ pub mod calls;
 mod finishing;
 mod handle;
 mod outcome;
-mod raw_box;
 mod signing;
 
 pub use handle::PlanHandle;

@@ -1,9 +1,6 @@
 pub mod CallFacts
-pub mod Handles
 pub mod OwnDenials
 pub mod Preparing
 pub mod PutsInOrder
-pub mod RawBoxes
 pub mod TextFacts
 pub mod UnderOrigins
-pub mod Walking

@@ -1,6 +1,7 @@
 -- What the calls of a program that isn't written in Rattle do to the zones that it keeps, and what they tell
 use Rattle.std.specs.Prelude.{◌≡◌, ◌≢◌, ◌⊎◌, ◌<◌, ◌++◌, ◌==◌, ℕ, List, [], drop, length, map, min, Bool, true, false, if◌then◌else◌, Option, Some, None, Result, Ok, Err}
 use Rattle.std.specs.List.{find}
+use Rattle.call_handles.specs.Rooms.{HasText, IsUntouched, StandsIn}
 use Rattle.zone_proto.specs.declared.error.ProtoError.{ProtoError}
 use Rattle.zone_proto.specs.Names.{Name, lower}
 use Rattle.zone_tokens.specs.Names.{name_under}
@@ -32,18 +33,6 @@ transport_of limit number =
     else None)
 
 -- ---- what is told in a room of the caller's
-
--- octets are at the beginning of the room, and what is behind them is as it was
-abbrev pub StandsIn : List ℕ → List ℕ → List ℕ → Type 0
-StandsIn octets before after = after ≡ octets ++ drop (length octets) before
-
--- nothing was written
-abbrev pub IsUntouched : ℕ → List ℕ → List ℕ → Type 0
-IsUntouched written before after = (written ≡ 0) × (after ≡ before)
-
--- a text of so many octets is at the beginning of the room
-abbrev pub HasText : ℕ → List ℕ → List ℕ → Type 0
-HasText written before after = (text : List ℕ) × (written ≡ length text) × StandsIn text before after
 
 -- what is reported about a text: warnings where the call is done, the fault where the text is bad, and nothing
 -- elsewhere

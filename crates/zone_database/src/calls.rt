@@ -5,12 +5,11 @@ ghost use Rattle.zone_database.specs.Calls.{transport_of, AnswersHeld, AsksHeld,
 
 use crate::buffer::{give, tell};
 use crate::database::ZoneDatabase;
-use crate::handle::Handle;
+use crate::handle::DatabaseHandle;
 use crate::loads::{add_zone, load_zone, prepare_zone, remove_zone};
 use crate::outcome::Outcome;
 use crate::serials::serial_of;
 use std::alloc::Global;
-use std::mem;
 use zone_server::{Answered, Transport};
 
 /// How many octets a response has room for before more is taken.
@@ -18,7 +17,7 @@ const FIRST_BUFFER: usize = 512;
 
 /// Makes a database without zones in place of what a handle holds, whose memory is given back. Where there isn't enough
 /// memory, what it holds stays.
-pub fn create(alloc: Global, zones: &mut Handle) -> Outcome
+pub fn create(alloc: Global, zones: &mut DatabaseHandle) -> Outcome
     ensures { IsCreated [] zones.old.held result zones.new.held }
 {
     match Box::new(alloc, ZoneDatabase::new(alloc)) {
@@ -31,15 +30,15 @@ pub fn create(alloc: Global, zones: &mut Handle) -> Outcome
 }
 
 /// Gives the memory of what a handle holds back. It holds nothing then.
-pub fn free(alloc: Global, zones: &mut Handle)
+pub fn free(alloc: Global, zones: &mut DatabaseHandle)
     ensures { zones.new.held ≡ None }
 {
-    drop(mem::replace(zones, Handle::empty(alloc)));
+    zones.clear(alloc);
 }
 
 /// Has another handle hold the same zones, in place of what it holds. The zones are in memory once, and each of the two
 /// handles has others put in and taken out by itself. Where there isn't enough memory, what the other holds stays.
-pub fn copy(alloc: Global, zones: &mut Handle, other: &mut Handle) -> Outcome
+pub fn copy(alloc: Global, zones: &mut DatabaseHandle, other: &mut DatabaseHandle) -> Outcome
     ensures copied { AsksHeld (λ zs o. IsCreated zs other.old.held o other.new.held)
         (other.new.held ≡ other.old.held) zones.old.held result }
     ensures same { zones.new.held ≡ zones.old.held }
@@ -55,7 +54,7 @@ pub fn copy(alloc: Global, zones: &mut Handle, other: &mut Handle) -> Outcome
 }
 
 /// Has a handle hold the zones of a database.
-fn put_copy(alloc: Global, database: &ZoneDatabase, other: &mut Handle) -> Outcome
+fn put_copy(alloc: Global, database: &ZoneDatabase, other: &mut DatabaseHandle) -> Outcome
     ensures { IsCreated (zones_in database.now) other.old.held result other.new.held }
 {
     let Ok(copy) = database.copy(alloc) else {
@@ -74,7 +73,7 @@ fn put_copy(alloc: Global, database: &ZoneDatabase, other: &mut Handle) -> Outco
 /// others, and writes what is reported about the text into the room.
 pub fn load(
     alloc: Global,
-    zones: &mut Handle,
+    zones: &mut DatabaseHandle,
     origin: &[u8],
     text: &[u8],
     buffer: &mut [u8],
@@ -94,7 +93,7 @@ pub fn load(
 #[tactic(auto, using(crate::proofs::CallFacts::changed))]
 fn load_held(
     alloc: Global,
-    zones: &mut Handle,
+    zones: &mut DatabaseHandle,
     origin: &[u8],
     text: &[u8],
     told: &mut String,
@@ -115,7 +114,7 @@ fn load_held(
 /// and writes what is reported about the text into the room.
 pub fn add(
     alloc: Global,
-    zones: &mut Handle,
+    zones: &mut DatabaseHandle,
     origin: &[u8],
     text: &[u8],
     buffer: &mut [u8],
@@ -135,7 +134,7 @@ pub fn add(
 #[tactic(auto, using(crate::proofs::CallFacts::changed))]
 fn add_held(
     alloc: Global,
-    zones: &mut Handle,
+    zones: &mut DatabaseHandle,
     origin: &[u8],
     text: &[u8],
     told: &mut String,
@@ -154,7 +153,7 @@ fn add_held(
 
 /// Takes the zone of an origin out.
 #[tactic(auto, using(crate::proofs::CallFacts::changed))]
-pub fn remove(alloc: Global, zones: &mut Handle, origin: &[u8]) -> Outcome
+pub fn remove(alloc: Global, zones: &mut DatabaseHandle, origin: &[u8]) -> Outcome
     ensures { ChangesHeld (IsDropped origin.now) zones.old.held result zones.new.held }
 {
     match zones.take(alloc) {
@@ -170,7 +169,7 @@ pub fn remove(alloc: Global, zones: &mut Handle, origin: &[u8]) -> Outcome
 /// Keeps the answers that the zone of an origin gives most, as the octets that go out, until the zone is replaced or taken
 /// out. No zone and no answer changes.
 #[tactic(auto, using(crate::proofs::CallFacts::changed))]
-pub fn prepare(alloc: Global, zones: &mut Handle, origin: &[u8]) -> Outcome
+pub fn prepare(alloc: Global, zones: &mut DatabaseHandle, origin: &[u8]) -> Outcome
     ensures { ChangesHeld (IsPrepared origin.now) zones.old.held result zones.new.held }
 {
     match zones.take(alloc) {
@@ -184,7 +183,7 @@ pub fn prepare(alloc: Global, zones: &mut Handle, origin: &[u8]) -> Outcome
 }
 
 /// Writes the serial of the zone of an origin.
-pub fn serial(alloc: Global, zones: &mut Handle, origin: &[u8], serial: &mut u32) -> Outcome
+pub fn serial(alloc: Global, zones: &mut DatabaseHandle, origin: &[u8], serial: &mut u32) -> Outcome
     ensures serial { AsksHeld (IsSerial origin.now serial.old serial.new) (serial.new ≡ serial.old)
         zones.old.held result }
     ensures same { zones.new.held ≡ zones.old.held }
@@ -202,7 +201,7 @@ pub fn serial(alloc: Global, zones: &mut Handle, origin: &[u8], serial: &mut u32
 /// Answers a message from the zones, and writes the response into the room. The way over UDP takes `limit` octets.
 pub fn answer(
     alloc: Global,
-    zones: &mut Handle,
+    zones: &mut DatabaseHandle,
     message: &[u8],
     limit: usize,
     transport: u32,
@@ -222,7 +221,7 @@ pub fn answer(
 }
 
 /// The transport of a number: 0 is UDP, by which the way takes `limit` octets, and 1 is TCP.
-fn transport_of(limit: usize, number: u32) -> Option<Transport>
+pub fn transport_of(limit: usize, number: u32) -> Option<Transport>
     ensures { result ≡ transport_of limit number }
 {
     match number {
@@ -237,7 +236,7 @@ fn transport_of(limit: usize, number: u32) -> Option<Transport>
 /// Answers a message that came by a transport.
 fn answer_held(
     alloc: Global,
-    zones: &mut Handle,
+    zones: &mut DatabaseHandle,
     message: &[u8],
     transport: Transport,
     buffer: &mut [u8],

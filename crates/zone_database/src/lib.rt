@@ -11,15 +11,16 @@ pub mod laws;
 mod loads;
 mod nearest_zone;
 mod outcome;
-mod raw_box;
 mod reading;
 mod reporting;
 mod serials;
 mod stored_zone;
 mod zone;
 
+pub use buffer::{give, tell};
 pub use database::ZoneDatabase;
-pub use handle::Handle;
+pub use handle::DatabaseHandle;
+pub use loads::origin_of;
 pub use outcome::Outcome;
 pub use reading::{ReadZone, TextFault, load_records, read_zone};
 pub use zone::{Zone, served, zone_of};

@@ -87,8 +87,9 @@ fn prepare_at(alloc: Global, database: &mut ZoneDatabase, origin: &LowerName) ->
     }
 }
 
-/// The origin that octets name (RFC 1035 section 5.1); a final dot may be left out.
-pub(crate) fn origin_of(alloc: Global, origin: &[u8]) -> Result<Name, Outcome>
+/// The origin that octets name (RFC 1035 section 5.1); a final dot may be left out. Refused by `BadName` where they are no name, and
+/// by `NoMemory`.
+pub fn origin_of(alloc: Global, origin: &[u8]) -> Result<Name, Outcome>
     ensures name { IfOk result (λ n. origin_of origin.now ≡ Ok n) }
     ensures refusal { IfErr result (λ o. (o ≡ Outcome.NoMemory)
         ⊎ ((o ≡ Outcome.BadName) × IsErr (origin_of origin.now))) }

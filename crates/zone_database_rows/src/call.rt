@@ -3,7 +3,7 @@
 use crate::left::Left;
 use line_text::read_hex;
 use std::alloc::{AllocError, Global};
-use zone_database::{Handle, Outcome, calls};
+use zone_database::{DatabaseHandle, Outcome, calls};
 
 /// A call, with what it is handed beside a handle.
 #[derive(Drop)]
@@ -61,8 +61,8 @@ fn read_answer<'r>(
 pub fn make(
     alloc: Global,
     call: &Call<'_>,
-    zones: &mut Handle,
-    other: &mut Handle,
+    zones: &mut DatabaseHandle,
+    other: &mut DatabaseHandle,
     left: &mut Left,
 ) -> Outcome {
     let (room, written) = (left.room.as_mut_slice(), &mut left.written);
@@ -98,7 +98,7 @@ pub fn make(
 }
 
 /// Puts what is taken out of a handle into another one.
-fn move_over(alloc: Global, zones: &mut Handle, other: &mut Handle) -> Outcome {
+fn move_over(alloc: Global, zones: &mut DatabaseHandle, other: &mut DatabaseHandle) -> Outcome {
     match zones.take(alloc) {
         Some(database) => {
             other.put(database);

@@ -4,7 +4,7 @@ use crate::call::{Call, make, read_call};
 use crate::left::{Left, told};
 use alloc_failures::Scarcity;
 use std::alloc::{AllocError, Global};
-use zone_database::{Handle, Outcome};
+use zone_database::{DatabaseHandle, Outcome};
 
 /// How many octets a room has where a row doesn't say it.
 const DEFAULT_BUFFER: usize = 1_232;
@@ -17,8 +17,8 @@ const TRIES: usize = 1_000;
 /// The handles of a file.
 #[derive(Drop)]
 struct Handles {
-    one: Handle,
-    two: Handle,
+    one: DatabaseHandle,
+    two: DatabaseHandle,
 }
 
 /// Makes the calls of all rows. The report counts the rows, and has a line for each with another answer.
@@ -26,8 +26,8 @@ pub fn report(alloc: Global, text: &str) -> Result<String, AllocError> {
     let (mut rows, mut wrong) = (0usize, 0usize);
     let mut faults = String::new(alloc);
     let mut handles = Handles {
-        one: Handle::empty(alloc),
-        two: Handle::empty(alloc),
+        one: DatabaseHandle::empty(alloc),
+        two: DatabaseHandle::empty(alloc),
     };
     for row in text.lines() {
         if let Some((call, wanted)) = row.split_once(" => ") {
@@ -76,8 +76,8 @@ fn call_answer(
     alloc: Global,
     way: &str,
     call: &Call<'_>,
-    zones: &mut Handle,
-    other: &mut Handle,
+    zones: &mut DatabaseHandle,
+    other: &mut DatabaseHandle,
 ) -> Result<String, AllocError> {
     let (kind, number) = way.split_once(' ').unwrap_or((way, ""));
     let mut left = Left::new(alloc, number.parse::<usize>().unwrap_or(DEFAULT_BUFFER))?;
@@ -113,8 +113,8 @@ fn make_scarcely(
     scarce: &mut Scarcity,
     tries: usize,
     call: &Call<'_>,
-    zones: &mut Handle,
-    other: &mut Handle,
+    zones: &mut DatabaseHandle,
+    other: &mut DatabaseHandle,
     left: &mut Left,
 ) -> (usize, Outcome) {
     let mut outcome = Outcome::NoMemory;
