@@ -1,10 +1,9 @@
-//! What a program that isn't written in Rattle keeps from one call to the next, and what it is told: a value behind a handle, which is a
-//! pointer to C, and octets that are written into a room of the caller's.
+//! What the crates share whose calls a program makes that isn't written in Rattle: boxes whose pointers it keeps, and octets that are
+//! written into a room of its own.
 #![tactic(auto)]
 
-mod handle;
 mod raw_box;
 mod room;
 
-pub use handle::Handle;
+pub use raw_box::RawBox;
 pub use room::{write_cut, write_front};

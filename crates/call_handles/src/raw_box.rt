@@ -5,11 +5,14 @@ ghost use Rattle.std_alloc.specs.Box.Ownership.{box_owns};
 use std::alloc::Allocator;
 use std::marker::Model;
 
-/// Where the value of a box lies, and what frees its block.
+/// A box in two parts. It owns the value and its block as the box does.
 pub struct RawBox<T, A: Allocator> {
-    pub(crate) ptr: *mut T,
-    pub(crate) alloc: A,
-    pub(crate) ghost content: { T },
+    /// Where the value lies.
+    pub ptr: *mut T,
+    /// What frees its block.
+    pub alloc: A,
+    /// The value.
+    pub ghost content: { T },
 }
 
 impl<T, A: Allocator> Model for RawBox<T, A> {
@@ -18,7 +21,7 @@ impl<T, A: Allocator> Model for RawBox<T, A> {
 
 impl<T: Drop, A: Allocator> RawBox<T, A> {
     /// Takes a box apart.
-    pub(crate) fn apart(whole: Box<T, A>) -> RawBox<T, A>
+    pub fn apart(whole: Box<T, A>) -> RawBox<T, A>
         ensures { result.content ≡ whole.value }
     {
         let (ptr, alloc) = Box::into_raw_with_allocator(whole);
@@ -26,7 +29,7 @@ impl<T: Drop, A: Allocator> RawBox<T, A> {
     }
 
     /// The box as it was.
-    pub(crate) fn whole(self) -> Box<T, A>
+    pub fn whole(self) -> Box<T, A>
         ensures { result.value ≡ self.content }
     {
         let RawBox { ptr, alloc } = self;

@@ -1,3 +1,4 @@
+pub mod Holding
 pub mod Signings
 pub mod Outcomes
 pub mod Beginning

@@ -12,6 +12,7 @@ use crate::signing::Signing;
 use call_handles::write_front;
 use held_plans::HeldPlan;
 use std::alloc::Global;
+use std::mem;
 use zone_database::{DatabaseHandle, ZoneDatabase};
 
 /// Plans the zone of an origin, which is to be signed by these keys, in place of what the handle of the plan holds. If it is refused,
@@ -218,5 +219,5 @@ fn install_held(
 pub fn free(alloc: Global, plan: &mut PlanHandle)
     ensures { plan.new.held ≡ None }
 {
-    plan.clear(alloc);
+    drop(mem::replace(plan, PlanHandle::empty(alloc)));
 }

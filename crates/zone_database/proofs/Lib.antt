@@ -1,4 +1,5 @@
 pub mod CallFacts
+pub mod Handles
 pub mod OwnDenials
 pub mod Preparing
 pub mod PutsInOrder

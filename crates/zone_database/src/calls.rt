@@ -10,6 +10,7 @@ use crate::loads::{add_zone, load_zone, prepare_zone, remove_zone};
 use crate::outcome::Outcome;
 use crate::serials::serial_of;
 use std::alloc::Global;
+use std::mem;
 use zone_server::{Answered, Transport};
 
 /// How many octets a response has room for before more is taken.
@@ -33,7 +34,7 @@ pub fn create(alloc: Global, zones: &mut DatabaseHandle) -> Outcome
 pub fn free(alloc: Global, zones: &mut DatabaseHandle)
     ensures { zones.new.held ≡ None }
 {
-    zones.clear(alloc);
+    drop(mem::replace(zones, DatabaseHandle::empty(alloc)));
 }
 
 /// Has another handle hold the same zones, in place of what it holds. The zones are in memory once, and each of the two
