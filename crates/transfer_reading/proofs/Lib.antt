@@ -1,0 +1,2 @@
+mod NameTests
+mod Steps

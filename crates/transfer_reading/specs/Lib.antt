@@ -1,0 +1,6 @@
+pub mod Queries
+pub mod Answers
+pub mod Stages
+pub mod Transfers
+pub mod Differences
+pub mod Outcomes
