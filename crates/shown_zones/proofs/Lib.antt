@@ -1,0 +1,3 @@
+pub mod Agreed
+pub mod Leading
+pub mod Shows

@@ -1,0 +1,4 @@
+pub mod Shown
+pub mod Steps
+pub mod Agreeing
+pub mod StepLaws
