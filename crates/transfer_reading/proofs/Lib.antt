@@ -1,2 +1,3 @@
 mod NameTests
 mod Steps
+mod Forms

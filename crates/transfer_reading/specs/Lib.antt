@@ -4,3 +4,4 @@ pub mod Stages
 pub mod Transfers
 pub mod Differences
 pub mod Outcomes
+pub mod Laws

@@ -9,6 +9,7 @@ mod answers;
 mod asked;
 mod differences;
 mod fault;
+pub mod laws;
 mod outcome;
 mod query;
 mod stage;
