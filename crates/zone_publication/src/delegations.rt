@@ -7,7 +7,7 @@ use crate::names::Zone;
 use zone_proto::{LowerName, ProtoError, RData, Record, RecordType};
 
 /// The digest of a key that the parent is to have (RFC 7344 section 3.1).
-const CDS: RecordType = RecordType(59);
+pub(crate) const CDS: RecordType = RecordType(59);
 
 /// Adds what is found of where a set stands. Its only error is `Memory`.
 pub(crate) fn push_placing(

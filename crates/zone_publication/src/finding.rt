@@ -1,7 +1,7 @@
 //! What is found of a zone.
 ghost use Rattle.std.specs.Prelude.{◌≡◌, ◌++◌, ◌∷◌, [], OnOk, IsOkUnless};
 ghost use Rattle.zone_publication.specs.Delegations.{finding};
-ghost use Rattle.zone_publication.specs.Warnings.{is_warning};
+ghost use Rattle.zone_publication.specs.Warnings.{is_allowed, is_of_host, is_warning};
 
 use std::fmt;
 use thiserror::Error;
@@ -30,6 +30,12 @@ pub enum What {
     /// A digest that isn't as long as those of its type are.
     #[error("has a digest of type {0} of another length")]
     DigestLength(u8),
+    /// A CDS or CDNSKEY below the origin (RFC 7344 section 4.1).
+    #[error("stands elsewhere than at the apex")]
+    NotAtApex,
+    /// A CDS or CDNSKEY of no key of the zone (RFC 7344 section 4.1).
+    #[error("has no key among the DNSKEY of the apex")]
+    WithoutKey,
     /// Data below a DNAME (RFC 6672 section 2.4).
     #[error("stands below a DNAME, so that it is never answered")]
     BelowDname,
@@ -75,6 +81,23 @@ impl What {
                 true,
             _ => false,
         }
+    }
+
+    /// Whether it is about a host that a record names.
+    fn is_of_host(&self) -> bool
+        ensures { result ≡ is_of_host self.now }
+    {
+        match self {
+            What::NoGlue(_) | What::TargetIsAlias(_) | What::NoAddress(_) => true,
+            _ => false,
+        }
+    }
+
+    /// Whether it is no fault: a warning, which one of a host is not where hosts are strictly judged.
+    pub fn is_allowed(&self, is_strict: bool) -> bool
+        ensures { result ≡ is_allowed is_strict self.now }
+    {
+        self.is_warning() && !(is_strict && self.is_of_host())
     }
 }
 

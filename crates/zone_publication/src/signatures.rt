@@ -56,7 +56,7 @@ fn has(algorithms: &[u8], algorithm: u8) -> bool
 }
 
 /// Whether a key is one of a zone (RFC 4034 section 2.1.1).
-fn is_zone_key(key: &DNSKEY) -> bool
+pub(crate) fn is_zone_key(key: &DNSKEY) -> bool
     ensures { result ≡ is_zone_key key.now }
 {
     key.flags / 256 % 2 == 1
