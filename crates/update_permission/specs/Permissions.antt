@@ -1,6 +1,7 @@
 -- Updates by those who may make them (RFC 2136 section 3.3)
 use Rattle.std.specs.Prelude.{ℕ, Bool, false, not, ◌==◌, ◌&&◌, ◌||◌, if◌then◌else◌, List, Option, Some, None, Result, Err}
 use Rattle.std.specs.List.{list_all}
+use Rattle.zone_proto.specs.Data.{type_of}
 use Rattle.zone_proto.specs.Names.{Name, lower}
 use Rattle.zone_proto.specs.Types.{ANY}
 use Rattle.zone_map.specs.Zones.{Sets, types_at}
@@ -9,6 +10,8 @@ use Rattle.update_policy.specs.declared.rule.Rule.{Rule}
 use Rattle.zone_update.specs.Entries.{class_any}
 use Rattle.zone_update.specs.Processing.{goes}
 use Rattle.zone_update.specs.Updates.{updated}
+use Rattle.zone_update.specs.declared.entry.Content.{Content}
+use Rattle.zone_update.specs.declared.entry.Content.TheVariants.{Data}
 use Rattle.zone_update.specs.declared.entry.Entry.{Entry}
 use Rattle.zone_update.specs.declared.refusal.Refusal.{Refusal}
 use Rattle.zone_update.specs.declared.refusal.Refusal.TheVariants.{Refused}
@@ -16,6 +19,14 @@ use Rattle.zone_update.specs.declared.refusal.Refusal.TheVariants.{Refused}
 -- a record of the update section deletes all sets of its name (section 2.5.3)
 abbrev pub deletes_name : Entry → Bool
 deletes_name r = (r.dns_class.0 == class_any) && (r.record_type.0 == ANY)
+
+-- the type of the set that a record of the update section is about: that of its data, where it has some
+abbrev pub type_by : ℕ → Content → ℕ
+type_by t (Data d) = type_of d
+type_by t _ = t
+
+abbrev pub type_about : Entry → ℕ
+type_about r = type_by r.record_type.0 r.content
 
 module _ (rules : List Rule) (key origin : Name) where
   -- the owner of the key may change the set of a name and a type, or that set doesn't go with its name
@@ -26,7 +37,7 @@ module _ (rules : List Rule) (key origin : Name) where
   abbrev pub is_permitted : Sets → Entry → Bool
   is_permitted m r =
       if deletes_name r then list_all (may_go (lower r.name)) (types_at m (lower r.name))
-      else permits rules key (lower r.name) r.record_type.0
+      else permits rules key (lower r.name) (type_about r)
 
   abbrev pub is_each_permitted : Sets → List Entry → Bool
   is_each_permitted m changes = list_all (is_permitted m) changes

@@ -3,20 +3,20 @@ ghost use Rattle.std.specs.Prelude.{◌≡◌, ◌||◌, not, map, IfOk, IsOkUnl
 ghost use Rattle.std.specs.List.{list_all};
 ghost use Rattle.zone_proto.specs.Names.{lower};
 ghost use Rattle.zone_map.specs.Zones.{types_at};
-ghost use Rattle.update_permission.specs.Permissions.{are_permitted, deletes_name, is_each_permitted, is_permitted, may_go};
+ghost use Rattle.update_permission.specs.Permissions.{are_permitted, deletes_name, is_each_permitted, is_permitted, may_go, type_about};
 
 use std::alloc::Global;
 use update_policy::{Rule, permits};
 use zone_map::RecordMap;
 use zone_proto::{DNSClass, LowerName, ProtoError, RecordType, RrKey};
-use zone_update::{Entry, goes, types_at};
+use zone_update::{Content, Entry, goes, types_at};
 
 /// The class ANY (RFC 1035 section 3.2.5).
 const CLASS_ANY: DNSClass = DNSClass(255);
 
-/// Whether a table of rules permits the owner of a key each of these changes in the zone of an origin: the set of its name and type, and
-/// where all sets of a name are deleted (RFC 2136 section 2.5.3) each of those that go with it. Nothing is permitted without a key.
-/// Refused by `Memory` alone.
+/// Whether a table of rules permits the owner of a key each of these changes in the zone of an origin: the set of its name and of the type
+/// of its data, or its own type where it has none; and where all sets of a name are deleted (RFC 2136 section 2.5.3) each of those that go
+/// with it. Nothing is permitted without a key. Refused by `Memory` alone.
 pub fn is_permitted(
     alloc: Global,
     rules: &[Rule],
@@ -72,11 +72,21 @@ fn is_one_permitted(
 {
     let name = LowerName::new(&entry.name)?;
     if !deletes_name(entry) {
-        return Ok(permits(rules, Some(key), &name, entry.record_type));
+        return Ok(permits(rules, Some(key), &name, type_about(entry)));
     }
     let least = RrKey::new(name, RecordType(0));
     let types = types_at(alloc, zone.as_map(), &least)?;
     Ok(may_go(rules, key, origin, &least.name, types.as_slice()))
+}
+
+/// The type of the set that a change is about: that of its data, where it has some.
+fn type_about(entry: &Entry) -> RecordType
+    ensures { result.0 ≡ type_about entry.now }
+{
+    match &entry.content {
+        Content::Data(data) => data.record_type(),
+        Content::Empty | Content::Unread => entry.record_type,
+    }
 }
 
 /// Whether a change deletes all sets of its name.
