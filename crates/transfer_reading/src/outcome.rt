@@ -12,7 +12,8 @@ use zone_proto::{Name, Record};
 /// What an answer says.
 #[derive(Drop)]
 pub enum Outcome {
-    /// The records of a version of the zone, each once, with the signatures.
+    /// The records of a version of the zone with the signatures, without the SOA record that ends it. Where the zone came whole they are as the
+    /// primary sent them, so one that it sent twice is there twice.
     Zone(Vec<Record>),
     /// The serial of the version that the primary has: that was asked for, or the version that is held isn't older.
     Serial(u32),
