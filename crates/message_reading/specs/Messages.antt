@@ -5,7 +5,7 @@ use Rattle.zone_proto.specs.declared.record.Record.{Record}
 use Rattle.message_reading.specs.declared.header.Header.{Header}
 use Rattle.message_reading.specs.declared.question.Question.{Question}
 use Rattle.message_reading.specs.declared.message.Message.{Message}
-use Rattle.message_reading.specs.declared.message_reader.Fields.{Fields}
+use Rattle.message_reading.specs.declared.fields.Fields.{Fields}
 use Rattle.message_reading.specs.declared.error.MessageError.{MessageError}
 use Rattle.message_reading.specs.declared.error.MessageError.TheVariants.{Malformed, Memory}
 use Rattle.message_reading.specs.Octets.{◌>>=◌, short_of, long_of, octets_of, alone, offset_of}

@@ -9,6 +9,7 @@ mod data;
 mod denial_data;
 mod error;
 mod extension;
+mod fields;
 mod header;
 mod header_reader;
 mod message;
@@ -30,6 +31,7 @@ mod unread;
 
 pub use data::{data_of, plain_data_of};
 pub use error::{MessageError, ReadError};
+pub use fields::{Fields, fields_of};
 pub use header::Header;
 pub use header_reader::read_header;
 pub use message::Message;

@@ -1,17 +1,18 @@
 //! Whole messages read.
 ghost use Rattle.std.specs.Prelude.{◌≡◌, IfOk, option_map};
-ghost use Rattle.message_reading.specs.Messages.{message_of, question_of, fields_of, first_authority_behind, first_authority_of, record_of, sections_of, several, parts_of, ReadsMessage};
+ghost use Rattle.message_reading.specs.Messages.{message_of, question_of, first_authority_behind, first_authority_of, record_of, sections_of, several, parts_of, ReadsMessage};
 
 use crate::data::data_of;
 use crate::error::MessageError;
+use crate::fields::fields_of;
 use crate::header::Header;
 use crate::header_reader::read_header;
 use crate::message::Message;
 use crate::names::name_of;
-use crate::octets::{long_of, octets_of, offset_of, short_of};
+use crate::octets::{octets_of, offset_of};
 use crate::question::{Question, question_of};
 use std::alloc::Global;
-use zone_proto::{DNSClass, ProtoError, Record, RecordType};
+use zone_proto::{ProtoError, Record};
 
 /// Reads a message with all its data: header, questions, and the records of its sections (RFC 1035 section 4.1).
 ///
@@ -183,30 +184,4 @@ fn record_of<'o>(
             Ok(Some((record, after)))
         }
     }
-}
-
-/// What stands between the owner of a record and its data: type, class, TTL and RDLENGTH.
-#[derive(Clone, Copy, PartialEq, Eq, Debug)]
-struct Fields {
-    record_type: RecordType,
-    dns_class: DNSClass,
-    ttl: u32,
-    count: u16,
-}
-
-/// The fields of a record at the start of octets, and what follows them.
-fn fields_of(octets: &[u8]) -> Option<(Fields, &[u8])>
-    ensures { option_map (λ x. (x.0, x.1.now)) result ≡ fields_of octets.now }
-{
-    let (record_type, rest) = short_of(octets)?;
-    let (class, rest) = short_of(rest)?;
-    let (ttl, rest) = long_of(rest)?;
-    let (count, rest) = short_of(rest)?;
-    let fields = Fields {
-        record_type: RecordType(record_type),
-        dns_class: DNSClass(class),
-        ttl,
-        count,
-    };
-    Some((fields, rest))
 }

@@ -11,7 +11,8 @@ use Rattle.zone_map.specs.Zones.{Sets}
 use Rattle.message_writing.specs.declared.response.Group.{Group}
 use Rattle.message_writing.specs.Responses.{records_of}
 use Rattle.transfer_messages.specs.Gathering.{Gathers}
-use Rattle.transfer_messages.specs.Transfers.{between, one_by_one, records_together, sets_records}
+use Rattle.transfer_messages.specs.Transfers.{sets_records}
+use Rattle.zone_server.specs.Transfers.{between, one_by_one, records_together}
 use Rattle.transfer_messages.proofs.Lists.{drop_joined}
 
 -- how many groups there are then

@@ -12,7 +12,7 @@ use Rattle.transfer_messages.specs.declared.transfer.TransferFault.{TransferFaul
 use Rattle.transfer_messages.specs.declared.transfer.TransferFault.TheVariants as faults
 use Rattle.transfer_messages.specs.Gathering.{Gathers}
 use Rattle.transfer_messages.specs.Messages.{Goes, HasTooLong, HasUnsendable, IsMessageOf, IsNext, Transfer, WritesMessage, left_of}
-use Rattle.transfer_messages.specs.Transfers.{one_by_one}
+use Rattle.zone_server.specs.Transfers.{one_by_one}
 use Rattle.transfer_messages.proofs.Gathered.{grown}
 use Rattle.transfer_messages.proofs.Lists.{no_elements}
 

@@ -3,7 +3,7 @@ use Rattle.std.specs.Prelude.{◌≡◌, ◌<◌, ◌≤◌, List, [], ◌++◌,
 use Rattle.zone_proto.specs.declared.record.Record.{Record}
 use Rattle.message_writing.specs.declared.response.Group.{Group}
 use Rattle.message_writing.specs.Responses.{records_of}
-use Rattle.transfer_messages.specs.Transfers.{one_by_one}
+use Rattle.zone_server.specs.Transfers.{one_by_one}
 
 -- The first of some records were put behind groups, each by itself, up to where there are 4,096 groups; these are left, behind those that
 -- were passed over because there were as many.

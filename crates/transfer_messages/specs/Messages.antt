@@ -1,9 +1,8 @@
 -- The messages of a transfer (RFC 5936 section 2.2)
-use Rattle.std.specs.Prelude.{◌≡◌, ◌≢◌, ◌⊎◌, ℕ, ◌≤◌, true, false, List, [], ◌∷◌, ◌++◌, length, take, drop, Option, Some, None, Result, Ok, Err}
+use Rattle.std.specs.Prelude.{◌≡◌, ◌≢◌, ◌⊎◌, ℕ, ◌≤◌, List, [], ◌∷◌, ◌++◌, length, take, drop, Option, Some, None, Result, Ok, Err}
 use Rattle.zone_proto.specs.declared.record.Record.{Record}
 use Rattle.zone_proto.specs.Sets.{RRset}
 use Rattle.zone_map.specs.Zones.{Sets}
-use Rattle.message_reading.specs.declared.header.Header.{Header}
 use Rattle.message_reading.specs.declared.query.Query.{Query}
 use Rattle.message_reading.specs.Messages.{Parts, message_of}
 use Rattle.message_writing.specs.declared.response.Group.{Group}
@@ -15,6 +14,7 @@ use Rattle.transfer_messages.specs.declared.transfer.Transfer.{Transfer as Kept}
 use Rattle.transfer_messages.specs.declared.transfer.TransferFault.{TransferFault}
 use Rattle.transfer_messages.specs.declared.transfer.TransferFault.TheVariants as faults
 use Rattle.transfer_messages.specs.Transfers.{left_at}
+use Rattle.zone_server.specs.Transfers.{transfer_header}
 
 -- A zone that is sent: to which query, its SOA and its sets, how many octets the server takes in one datagram, and how many a message may
 -- have.
@@ -24,26 +24,6 @@ pub record Transfer : Type 0 where
   pub sets : Sets
   pub size : ℕ
   pub limit : ℕ
-
--- AA is set, and TC, AD and CD are clear; identifier and RD are the query's (RFC 5936 section 2.2.1, RFC 4035 section 3.1.6)
-abbrev pub transfer_header : Query → ℕ → ℕ → Header
-transfer_header q answers additionals = record {
-  id = q.header.id;
-  is_response = true;
-  opcode = 0;
-  authoritative = true;
-  truncated = false;
-  recursion_desired = q.header.recursion_desired;
-  recursion_available = false;
-  reserved = false;
-  authentic_data = false;
-  checking_disabled = false;
-  response_code = 0;
-  questions = 1;
-  answers = answers;
-  authorities = 0;
-  additionals = additionals;
-}
 
 -- the message with the question as it came (RFC 5936 section 2.2.2), these answers, and an OPT record if and only if the query has one
 -- (section 2.2.5)

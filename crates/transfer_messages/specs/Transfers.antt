@@ -1,5 +1,5 @@
 -- The records that a transfer sends (RFC 5936 section 2.2), and which of them are left at a place
-use Rattle.std.specs.Prelude.{if◌then◌else◌, ◌==◌, List, [], ◌∷◌, ◌++◌, drop, map, Option, Some, None}
+use Rattle.std.specs.Prelude.{List, ◌++◌, drop, Option, Some, None}
 use Rattle.std.specs.BTreeMap.Range.{entries_between}
 use Rattle.std.specs.List.{flat_map}
 use Rattle.std.specs.Map.{values_of}
@@ -8,23 +8,10 @@ use Rattle.zone_proto.specs.declared.record.Record.{Record}
 use Rattle.zone_proto.specs.declared.rr_key.RrKey.{RrKey}
 use Rattle.zone_proto.specs.Keys.{key_cmp}
 use Rattle.zone_proto.specs.Sets.{RRset}
-use Rattle.zone_proto.specs.Types.{SOA}
 use Rattle.zone_map.specs.Zones.{Sets}
-use Rattle.message_writing.specs.Responses.{with_ttl}
+use Rattle.zone_server.specs.Transfers.{between, records_together, soa_alone}
 use Rattle.transfer_messages.specs.declared.place.Place.{Place}
 use Rattle.transfer_messages.specs.declared.place.Place.TheVariants as at
-
--- the records of a set and then its signatures, with the TTL of the set (RFC 2181 section 5.2, RFC 4034 section 3)
-abbrev pub records_together : RRset → List Record
-records_together s = map (with_ttl s.ttl) (s.records ++ s.signatures)
-
--- the SOA, whose signatures go with the other sets
-abbrev pub soa_alone : RRset → RRset
-soa_alone soa = record soa { signatures = [] }
-
--- a set as it is between the two SOA records: of an SOA the signatures alone
-abbrev pub between : RRset → RRset
-between s = if s.record_type == SOA then record s { records = [] } else s
 
 -- the records of some sets, in the order of their keys
 abbrev pub sets_records : Sets → List Record
@@ -44,7 +31,3 @@ abbrev pub left_at : RRset → Sets → Place → List Record
 left_at soa m (at.Opening n) = drop n (zone_records soa m)
 left_at soa m (at.Set k n) = drop n (sets_records (ahead_of m (Some k)) ++ records_together (soa_alone soa))
 left_at soa m (at.Closing n) = drop n (records_together (soa_alone soa))
-
--- each record by itself
-abbrev pub one_by_one : List Record → List (List Record)
-one_by_one records = map (λ r. r ∷ []) records

@@ -2,15 +2,17 @@
 ghost use Rattle.std.specs.Prelude.{◌≡◌, ◌+◌, ◌-◌, ◌++◌, [], drop, length, map, IfOk, OnOk};
 ghost use Rattle.message_writing.specs.Responses.{records_of, with_ttl};
 ghost use Rattle.transfer_messages.specs.Gathering.{Gathers};
-ghost use Rattle.transfer_messages.specs.Transfers.{left_at, one_by_one, records_together, sets_records, soa_alone};
+ghost use Rattle.transfer_messages.specs.Transfers.{left_at, sets_records};
+ghost use Rattle.zone_server.specs.Transfers.{records_together, soa_alone};
 
-use crate::ahead::{between, sets_ahead, soa_alone};
+use crate::ahead::sets_ahead;
 use crate::place::Place;
 use crate::transfer::Transfer;
 use message_writing::Group;
 use std::alloc::{AllocError, Global};
 use std::collections::btree_map::Range;
 use zone_proto::{Record, RecordSet, RrKey};
+use zone_server::transfer_records::{between, push_singles, soa_alone};
 
 /// How many records are looked at for one message. In 65,535 octets there is mostly no room for as many.
 const MOST: usize = 4_096;
@@ -92,23 +94,4 @@ fn push_records<'z>(
     let (first, _) = rest.split_at(room.min(rest.len()));
     push_singles(groups, first, ttl)?;
     Ok(skip - start)
-}
-
-/// Appends records with a TTL, each by itself.
-fn push_singles<'z>(
-    groups: &mut Vec<Group<'z>>,
-    records: &'z [Record],
-    ttl: u32,
-) -> Result<(), AllocError>
-    ensures { OnOk result (map records_of groups.new.items
-        ≡ map records_of groups.old.items ++ one_by_one (map (with_ttl ttl) records.now)) }
-{
-    for record in records {
-        groups.push(Group {
-            records: std::slice::from_ref(record),
-            signatures: &[],
-            ttl,
-        })?;
-    }
-    Ok(())
 }

@@ -4,13 +4,13 @@ use Rattle.std.specs.List.{list_any}
 use Rattle.zone_proto.specs.Names.{Name}
 use Rattle.zone_proto.specs.Types.{IN, SOA}
 use Rattle.zone_proto.specs.declared.dns_class.DNSClass.{DNSClass}
-use Rattle.zone_proto.specs.declared.record_type.RecordType.{RecordType}
-use Rattle.message_reading.specs.Octets.{◌>>=◌, short_of, long_of, octets_of, alone, offset_of}
+use Rattle.message_reading.specs.Octets.{◌>>=◌, octets_of, alone, offset_of}
 use Rattle.message_reading.specs.MessageNames.{name_of}
 use Rattle.message_reading.specs.DataForms.{data_of}
 use Rattle.message_reading.specs.Headers.{header_of}
-use Rattle.message_reading.specs.Messages.{question_of, several}
+use Rattle.message_reading.specs.Messages.{fields_of, question_of, several}
 use Rattle.message_reading.specs.Unread.{record_frame_of}
+use Rattle.message_reading.specs.declared.fields.Fields.{Fields}
 use Rattle.message_reading.specs.declared.header.Header.{Header}
 use Rattle.message_reading.specs.declared.question.Question.{Question}
 use Rattle.message_reading.specs.declared.record_frame.RecordFrame.{RecordFrame}
@@ -21,28 +21,10 @@ use Rattle.zone_update.specs.declared.entry.Entry.{Entry}
 use Rattle.update_message.specs.declared.message.UpdateMessage.{UpdateMessage}
 use Rattle.update_message.specs.declared.message.UpdateError.{UpdateError}
 use Rattle.update_message.specs.declared.message.UpdateError.TheVariants.{NoUpdate, Malformed, OtherClass, Memory}
-use Rattle.update_message.specs.declared.reader.Fields.{Fields}
 
 -- A record of class ANY has no data, nor has a prerequisite of class NONE (sections 2.4 and 2.5).
 abbrev pub has_no_data : Bool → ℕ → Bool
 has_no_data is_prerequisite class = class == class_any || (is_prerequisite && class == class_none)
-
--- what stands between the owner of a record and its data: type, class, TTL and RDLENGTH (RFC 1035 section 4.1.3)
-abbrev pub fields_of : List ℕ → Option (Fields × List ℕ)
-fields_of octets =
-    short_of octets >>= λ t.
-    short_of t.1 >>= λ class.
-    long_of class.1 >>= λ ttl.
-    short_of ttl.1 >>= λ count.
-    Some (
-      record {
-        record_type = record { 0 = t.0 };
-        dns_class = record { 0 = class.0 };
-        ttl = ttl.0;
-        count = count.0;
-      },
-      count.1,
-    )
 
 -- what a record has as data: where it is to have none they aren't read
 abbrev pub content_of : Bool → Fields → List ℕ → ℕ → List ℕ → Option Content

@@ -2,12 +2,12 @@
 ghost use Rattle.std.specs.Prelude.{◌≡◌, ◌≤◌, ◌==◌, ◌||◌, not, count_by, length, nat_le, Some, IfOk, option_map};
 ghost use Rattle.std.specs.List.{list_any};
 ghost use Rattle.message_reading.specs.Messages.{several};
-ghost use Rattle.update_message.specs.Updates.{additional_of, are_additionals, body_of, content_of, entry_of, extension_of, fields_of, has_no_data, if_internet, if_update, is_astray, is_extension, update_of, IsUpdateRead, parts_of};
+ghost use Rattle.update_message.specs.Updates.{additional_of, are_additionals, body_of, content_of, entry_of, extension_of, has_no_data, if_internet, if_update, is_astray, is_extension, update_of, IsUpdateRead, parts_of};
 
 use crate::message::{UpdateError, UpdateMessage};
 use message_reading::{
-    Header, RecordFrame, data_of, long_of, name_of, octets_of, offset_of, question_of, read_header,
-    record_frame_of, short_of,
+    Fields, Header, RecordFrame, data_of, fields_of, name_of, octets_of, offset_of, question_of,
+    read_header, record_frame_of,
 };
 use std::alloc::Global;
 use zone_proto::{DNSClass, ProtoError, RecordType};
@@ -280,32 +280,6 @@ fn entry_of<'o>(
             Ok(Some((entry, after)))
         }
     }
-}
-
-/// What stands between the owner of a record and its data: type, class, TTL and RDLENGTH.
-#[derive(Clone, Copy, PartialEq, Eq, Debug)]
-struct Fields {
-    record_type: RecordType,
-    dns_class: DNSClass,
-    ttl: u32,
-    count: u16,
-}
-
-/// The fields of a record at the start of octets, and what stands after them.
-fn fields_of(octets: &[u8]) -> Option<(Fields, &[u8])>
-    ensures { option_map (λ x. (x.0, x.1.now)) result ≡ fields_of octets.now }
-{
-    let (record_type, rest) = short_of(octets)?;
-    let (class, rest) = short_of(rest)?;
-    let (ttl, rest) = long_of(rest)?;
-    let (count, rest) = short_of(rest)?;
-    let fields = Fields {
-        record_type: RecordType(record_type),
-        dns_class: DNSClass(class),
-        ttl,
-        count,
-    };
-    Some((fields, rest))
 }
 
 /// What a record has as data; none where they aren't of the form of its type. A record of class ANY has none, nor has a prerequisite of

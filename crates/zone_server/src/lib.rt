@@ -15,6 +15,7 @@ mod sending;
 mod server;
 mod serving;
 mod transfer_policy;
+pub mod transfer_records;
 mod transfer_reply;
 mod transfer_writer;
 mod transfers;

@@ -1,12 +1,13 @@
 //! A zone in messages one behind the other (RFC 5936 section 2.2).
 ghost use Rattle.std.specs.Prelude.{◌≡◌, ◌⊎◌, ◌≤◌, ◌+◌, ◌++◌, ◌∷◌, [], IfErr, IfOk, OnOk, drop, length, map, take};
 ghost use Rattle.message_writing.specs.Fronts.{FirstHasNoRoom};
-ghost use Rattle.message_writing.specs.Responses.{all_records, records_of, with_ttl};
+ghost use Rattle.message_writing.specs.Responses.{all_records, records_of};
 ghost use Rattle.zone_server.specs.Serving.{Puts};
-ghost use Rattle.zone_server.specs.Transfers.{between, groups_sent, joined, one_by_one, records_together, soa_alone, AreBrokenOff, AreSentWhole};
+ghost use Rattle.zone_server.specs.Transfers.{groups_sent, joined, one_by_one, AreBrokenOff, AreSentWhole};
 ghost use Rattle.zone_server.specs.TransferSteps.{Halts, HasSent, HasSentFirst, HasSentSets, WritesMessage};
 
 use crate::sending::send_code;
+use crate::transfer_records::{between, push_singles, soa_alone};
 use crate::transport::DATAGRAM_SIZE;
 use crate::waiting::{Stop, put_answer};
 use message_reading::Query;
@@ -14,7 +15,7 @@ use message_writing::{Group, Response as Message, WriteError, write_front};
 use std::alloc::{AllocError, Global};
 use std::collections::BTreeMap;
 use std::io::Write;
-use zone_proto::{Record, RecordSet, RecordType, ResponseCode, RrKey};
+use zone_proto::{RecordSet, ResponseCode, RrKey};
 
 /// How many sets wait at most to be put into a message. A message of 65,535 octets mostly has fewer.
 const MOST_WAITING: usize = 4_096;
@@ -126,35 +127,6 @@ fn send_sets<W: Write>(
         output,
     )?;
     send_all(alloc, query, waiting.as_slice(), out, answers, output)
-}
-
-/// The SOA without its signatures.
-pub(crate) fn soa_alone(soa: &RecordSet) -> Group<'_>
-    ensures { records_of result ≡ records_together (soa_alone soa.now) }
-{
-    Group {
-        records: soa.as_slice(),
-        signatures: &[],
-        ttl: soa.ttl(),
-    }
-}
-
-/// A set with its signatures; of an SOA these alone.
-fn between(set: &RecordSet) -> Group<'_>
-    ensures { records_of result ≡ records_together (between set.now) }
-{
-    if set.record_type() == RecordType::SOA {
-        return Group {
-            records: &[],
-            signatures: set.rrsigs(),
-            ttl: set.ttl(),
-        };
-    }
-    Group {
-        records: set.as_slice(),
-        signatures: set.rrsigs(),
-        ttl: set.ttl(),
-    }
 }
 
 /// Puts a set behind those that wait, and sends the first of these where they are many.
@@ -297,25 +269,6 @@ fn one_by_one<'g>(alloc: Global, group: &Group<'g>) -> Result<Vec<Group<'g>>, Al
     push_singles(&mut singles, group.records, group.ttl)?;
     push_singles(&mut singles, group.signatures, group.ttl)?;
     Ok(singles)
-}
-
-/// Appends records with a TTL, each by itself.
-fn push_singles<'g>(
-    singles: &mut Vec<Group<'g>>,
-    records: &'g [Record],
-    ttl: u32,
-) -> Result<(), AllocError>
-    ensures { OnOk result (map records_of singles.new.items
-        ≡ map records_of singles.old.items ++ one_by_one (map (with_ttl ttl) records.now)) }
-{
-    for record in records {
-        singles.push(Group {
-            records: std::slice::from_ref(record),
-            signatures: &[],
-            ttl,
-        })?;
-    }
-    Ok(())
 }
 
 /// Sends a message of as many of the first sets as it has room for, and gives how many; none is sent where it has room for none.

@@ -1,6 +1,7 @@
 use Rattle.std.proofs.Common.{◌≡◌, ◌++◌, drop}
 use Rattle.std.specs.Prelude.{option_copied}
-use Rattle.transfer_messages.specs.Transfers.{ahead_of, records_together, sets_records, soa_alone}
+use Rattle.transfer_messages.specs.Transfers.{ahead_of, sets_records}
+use Rattle.zone_server.specs.Transfers.{records_together, soa_alone}
 use Rattle.transfer_messages.proofs.Tails.{IsTailOf}
 use Rattle.transfer_messages.proofs.advancing.advance_in.Given as goal
 

@@ -1,7 +1,7 @@
 use Rattle.std.proofs.Common.{◌≡◌, ◌++◌, map, take}
 use Rattle.message_writing.specs.Responses.{records_of, with_ttl}
 use Rattle.zone_server.specs.Transfers.{one_by_one}
-use Rattle.zone_server.proofs.transfer_writer.push_singles.Given as goal
+use Rattle.zone_server.proofs.transfer_records.push_singles.Given as goal
 
 abbrev pub invariant-loop-record : goal.invariant-loop-record
 invariant-loop-record l =
