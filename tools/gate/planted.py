@@ -7,9 +7,10 @@
   new: another line          what replaces it
 
 More pairs of old and new, and more files, may follow. As a program, this checks that each can be applied: each old text occurs exactly
-once in its file, the names after `by` exist, and docs/PROOFS.md has the right number. It prints what is wrong, and ends with status 1 if
+once in its file, the names after `by` exist, and docs/PROOFS.md has the right numbers. It prints what is wrong, and ends with status 1 if
 anything is. tools/gate/plant tries them.
 """
+import fcntl
 import functools
 import os
 import re
@@ -21,6 +22,9 @@ sys.path.append(os.path.dirname(os.path.dirname(os.path.realpath(__file__))))
 import sources
 
 PROOFS = "docs/PROOFS.md"
+
+# A line for each wrong body that the check has refused when tools/gate/plant tried it last: CRATE/NAME DAY.
+TRIED = "planted/tried"
 
 
 def read(path):
@@ -99,16 +103,45 @@ def complaints():
     return found
 
 
+def days_tried():
+    """The days on which wrong bodies were refused last, by crate and name."""
+    return dict(it.split(" ", 1) for it in read(TRIED).splitlines())
+
+
+def record(crate, name, day):
+    """Notes that a wrong body was refused on a day. Runs beside each other take turns."""
+    path = f"{sources.TOP}/{TRIED}"
+    with open(path, "a+", encoding="utf-8") as it:
+        fcntl.flock(it, fcntl.LOCK_EX)
+        days = {**days_tried(), f"{crate}/{name}": day}
+        it.truncate(0)
+        it.write("".join(f"{key} {days[key]}\n" for key in sorted(days)))
+
+
+def records_astray():
+    """What is wrong with the record of tries."""
+    names = {f"{crate}/{it.removesuffix('.edit')}" for crate in crates_with_planted() for it in os.listdir(f"{sources.TOP}/planted/{crate}")}
+    for key, day in days_tried().items():
+        if key not in names:
+            yield f"{TRIED}: planted/ has no {key}.edit"
+        if not re.fullmatch(r"20\d\d-\d\d-\d\d", day):
+            yield f"{TRIED}: {key} has no day"
+
+
 def miscounted():
-    """What PROOFS says otherwise of their number."""
+    """What PROOFS says otherwise of their number, and of how many were tried."""
     there = sum(len(os.listdir(f"{sources.TOP}/planted/{crate}")) for crate in crates_with_planted())
-    stated = re.search(r"`planted/` has (\d+) wrong bodies", sources.read(PROOFS))
+    text = sources.read(PROOFS)
+    stated = re.search(r"`planted/` has (\d+) wrong bodies", text)
     if not stated or int(stated[1]) != there:
         yield f"{PROOFS}: planted/ has {there}"
+    stated = re.search(r"`planted/tried` has (\d+) of them", text)
+    if not stated or int(stated[1]) != len(days_tried()):
+        yield f"{PROOFS}: {TRIED} has {len(days_tried())}"
 
 
 def main():
-    found = [*complaints(), *miscounted()]
+    found = [*complaints(), *records_astray(), *miscounted()]
     for it in found:
         print(f"planted: {it}")
     return 1 if found else 0
