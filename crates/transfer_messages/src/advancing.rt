@@ -10,6 +10,7 @@ use crate::place::Place;
 use crate::transfer::Transfer;
 use message_writing::Group;
 use zone_proto::{ProtoError, RrKey};
+use zone_server::transfer_records::{between, soa_alone};
 
 /// Where the passing of records ends.
 #[derive(Clone, Copy, PartialEq, Eq, Debug)]

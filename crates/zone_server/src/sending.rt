@@ -8,7 +8,7 @@ ghost use Rattle.zone_server.specs.Sending.{Sends};
 ghost use Rattle.zone_server.specs.Transfers.{soa_sections};
 
 use crate::sections::{GroupedSections, grouped_sections, outgoing_sections};
-use crate::transfer_writer::soa_alone;
+use crate::transfer_records::soa_alone;
 use crate::transport::DATAGRAM_SIZE;
 use message_reading::Query;
 use message_writing::{Response as Message, WriteError, write_response};
