@@ -1,0 +1,27 @@
+//! Writes the questions of secondaries, and takes the answers of primaries, as rows of text describe; reports which rows have another answer.
+//! Each line of standard input names a file of rows in the current directory, `data`.
+//!
+//! A row is `CALL => ANSWER`; a line without `=>` is a comment, and spaces within answers are passed over. Octets are written in hex. A question
+//! is `soa`, `changes SERIAL` or `zone`. The calls:
+//!
+//! - `query ID NAME QUESTION` writes a question: its octets;
+//! - `held NAME TTL TYPE DATA` adds a record to those that are held: how many there are;
+//! - `answer ID NAME QUESTION MESSAGE ..` takes the messages of the answer to a question: how far it has come behind each, or what is wrong with
+//!   it, which ends the row; and then what it says, the records of the zone in lines of a file or the serial alone.
+#![tactic(auto)]
+
+mod answers;
+mod calls;
+mod rows;
+
+use std::{fs, io};
+
+fn main(rt: HostRuntime) -> io::Result<()> {
+    for file in rt.lines(rt.alloc()) {
+        let file = file?;
+        let text = fs::read_to_string(&rt, file.as_str())?;
+        let report = rows::report(rt.alloc(), text.as_str())?;
+        println!(rt; "{file}: {report}")?;
+    }
+    Ok(())
+}
