@@ -1,3 +1,4 @@
 pub mod Agreed
+pub mod Copied
 pub mod Leading
 pub mod Shows

@@ -5,11 +5,13 @@
 //! section 5.2). Without these two parts a zone is what can be written into messages and read back.
 #![tactic(auto)]
 
+mod copying;
 pub mod laws;
 mod spelling;
 mod step;
 mod stepping;
 
+pub use copying::{shown, shown_set};
 pub use spelling::spelled;
 pub use step::{ZoneStep, step_between};
-pub use stepping::difference_of;
+pub use stepping::{all_stepped, difference_of};
