@@ -1,0 +1,2 @@
+mod LeftOut
+mod Made

@@ -1,0 +1,3 @@
+pub mod HeldRecords
+pub mod TransferredZones
+pub mod Taking
