@@ -98,3 +98,7 @@ is_met m ds _ = true
 -- the prerequisites are met, or why they aren't
 abbrev pub met : Name → Sets → List Entry → Result (List Demand) Refusal
 met origin m rs = demands_of origin m rs >>= λ ds. if list_all (is_met m ds) ds then Ok ds else Err NXRRSet
+
+-- the same without what they demand
+abbrev pub are_met : Name → Sets → List Entry → Result (Unit {0}) Refusal
+are_met origin m rs = met origin m rs >>= λ _. Ok tt

@@ -20,6 +20,7 @@ pub use change::Change;
 pub use demand::Demand;
 pub use entry::{Content, Entry, Update};
 pub use names::types_at;
+pub use prerequisites::check_prerequisites;
 pub use processing::goes;
 pub use refusal::Refusal;
 pub use updating::{changed_sets, updated};
