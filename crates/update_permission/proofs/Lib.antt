@@ -1,0 +1,4 @@
+pub mod About
+pub mod Apart
+pub mod Permitted
+pub mod Stays

@@ -1,5 +1,5 @@
 -- Updates by those who may make them (RFC 2136 section 3.3)
-use Rattle.std.specs.Prelude.{ℕ, Bool, false, not, ◌==◌, ◌&&◌, ◌||◌, if◌then◌else◌, List, Option, Some, None, Result, Err}
+use Rattle.std.specs.Prelude.{ℕ, Bool, false, not, ◌==◌, ◌&&◌, ◌||◌, if◌then◌else◌, List, [], Option, Some, None, Result, Err}
 use Rattle.std.specs.List.{list_all}
 use Rattle.zone_proto.specs.Data.{type_of}
 use Rattle.zone_proto.specs.Names.{Name, lower}
@@ -7,7 +7,8 @@ use Rattle.zone_proto.specs.Types.{ANY}
 use Rattle.zone_map.specs.Zones.{Sets, types_at}
 use Rattle.update_policy.specs.Policies.{permits}
 use Rattle.update_policy.specs.declared.rule.Rule.{Rule}
-use Rattle.zone_update.specs.Entries.{class_any}
+use Rattle.zone_update.specs.Demands.{are_met}
+use Rattle.zone_update.specs.Entries.{◌>>=◌, class_any}
 use Rattle.zone_update.specs.Processing.{goes}
 use Rattle.zone_update.specs.Updates.{updated}
 use Rattle.zone_update.specs.declared.entry.Content.{Content}
@@ -42,12 +43,15 @@ module _ (rules : List Rule) (key origin : Name) where
   abbrev pub is_each_permitted : Sets → List Entry → Bool
   is_each_permitted m changes = list_all (is_permitted m) changes
 
--- who has a key may make each of these changes; who has none may make none, and can't ask whether prerequisites are met
+-- who has a key may make each of these changes; who has none may make none
 abbrev pub are_permitted : List Rule → Option Name → Name → Sets → List Entry → Bool
 are_permitted rules None origin m changes = false
 are_permitted rules (Some key) origin m changes = is_each_permitted rules key origin m changes
 
--- an update is carried out where each of its changes is permitted, and refused otherwise, whatever its prerequisites are
+-- In the standard's order the prerequisites are looked at (section 3.2), then whether each change is permitted (section 3.3), and then the
+-- changes are made (section 3.4). Who has no key is refused before, as who has a wrong one is (RFC 8945 section 5.2).
 abbrev pub updated_if_permitted : List Rule → Option Name → Name → Sets → List Entry → List Entry → Result Sets Refusal
-updated_if_permitted rules key origin m prerequisites changes =
-    if are_permitted rules key origin m changes then updated origin m prerequisites changes else Err Refused
+updated_if_permitted rules None origin m prerequisites changes = Err Refused
+updated_if_permitted rules (Some key) origin m prerequisites changes =
+    are_met origin m prerequisites >>= λ _.
+    if is_each_permitted rules key origin m changes then updated origin m [] changes else Err Refused

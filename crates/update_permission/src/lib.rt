@@ -2,6 +2,7 @@
 //! its changes to who asks for it, and is refused otherwise.
 #![tactic(auto)]
 
+pub mod laws;
 mod permission;
 mod updating;
 

@@ -1,6 +1,7 @@
 //! An update that is carried out where it is permitted.
-ghost use Rattle.std.specs.Prelude.{option_copied};
+ghost use Rattle.std.specs.Prelude.{[], Some, option_copied};
 ghost use Rattle.zone_update.specs.Entries.{Gives};
+ghost use Rattle.zone_update.specs.Updates.{updated};
 ghost use Rattle.update_permission.specs.Permissions.{updated_if_permitted};
 
 use crate::permission::is_permitted;
@@ -8,17 +9,19 @@ use std::alloc::Global;
 use update_policy::Rule;
 use zone_map::RecordMap;
 use zone_proto::LowerName;
-use zone_update::{Refusal, Update, updated};
+use zone_update::{Entry, Refusal, Update, check_prerequisites, updated};
 
 /// The sets of the zone of an origin after an update that the owner of a key asks for, where a table of rules permits each of its changes
 /// ([`is_permitted`]). Those that it has are only read, so a refusal leaves nothing to undo.
 ///
-/// Whether it is permitted is looked at before the prerequisites, so that who may not change a zone doesn't learn by them what is in it.
+/// It is done in the order of RFC 2136 section 3: the prerequisites are looked at, then whether each change is permitted, and then the
+/// changes are made. But who has no key is refused before all that, as who has a wrong one is (RFC 8945 section 5.2): prerequisites may
+/// be many, and are compared with whole sets.
 ///
 /// # Errors
 ///
-/// `Refused` where a change isn't permitted, or without a key; otherwise those of `updated` of `zone_update`. `Memory` may come in place
-/// of any of these.
+/// `Refused` without a key; otherwise those of `updated` of `zone_update` for a prerequisite, then `Refused` where a change isn't permitted,
+/// and then those of `updated` for a change. `Memory` may come in place of any of these.
 pub fn updated_if_permitted(
     alloc: Global,
     rules: &[Rule],
@@ -31,9 +34,51 @@ pub fn updated_if_permitted(
         (updated_if_permitted rules.now (option_copied key.entry) origin.now zone.now
         update.prerequisites.items update.changes.items) }
 {
-    match is_permitted(alloc, rules, key, origin, zone, update.changes.as_slice()) {
-        Ok(true) => updated(alloc, origin, zone, update),
+    match key {
+        None => Err(Refusal::Refused),
+        Some(key) => updated_by(alloc, rules, key, origin, zone, update),
+    }
+}
+
+/// The same for the owner of a key.
+fn updated_by(
+    alloc: Global,
+    rules: &[Rule],
+    key: &LowerName,
+    origin: &LowerName,
+    zone: &RecordMap,
+    update: Update,
+) -> Result<RecordMap, Refusal>
+    ensures { Gives result
+        (updated_if_permitted rules.now (Some key.now) origin.now zone.now
+        update.prerequisites.items update.changes.items) }
+{
+    let Update {
+        prerequisites,
+        changes,
+    } = update;
+    if let Err(refusal) = check_prerequisites(alloc, origin, zone, prerequisites) {
+        return Err(refusal);
+    }
+    match is_permitted(alloc, rules, Some(key), origin, zone, changes.as_slice()) {
+        Ok(true) => updated_alone(alloc, origin, zone, changes),
         Ok(false) => Err(Refusal::Refused),
         Err(_) => Err(Refusal::Memory),
     }
+}
+
+/// The sets of a zone after changes without prerequisites.
+fn updated_alone(
+    alloc: Global,
+    origin: &LowerName,
+    zone: &RecordMap,
+    changes: Vec<Entry>,
+) -> Result<RecordMap, Refusal>
+    ensures { Gives result (updated origin.now zone.now [] changes.items) }
+{
+    let update = Update {
+        prerequisites: Vec::new(alloc),
+        changes,
+    };
+    updated(alloc, origin, zone, update)
 }
