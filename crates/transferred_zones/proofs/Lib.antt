@@ -1,2 +1,4 @@
 mod LeftOut
 mod Made
+mod SetsGrown
+mod Exactly

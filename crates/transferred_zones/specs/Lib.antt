@@ -1,3 +1,4 @@
 pub mod HeldRecords
 pub mod TransferredZones
 pub mod Taking
+pub mod Exact

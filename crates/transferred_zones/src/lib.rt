@@ -7,6 +7,7 @@
 
 mod fault;
 mod held;
+pub mod laws;
 mod taking;
 mod zone;
 
