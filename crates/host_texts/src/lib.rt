@@ -1,7 +1,10 @@
 //! The texts of files of the file system, which programs give to those who read zone files with their inclusions.
 #![tactic(auto)]
 
-use std::alloc::Global;
+mod names;
+
+use names::name_beside;
+use std::alloc::{AllocError, Global};
 use std::fs;
 use std::io::{ErrorKind, Read};
 use zone_texts::Texts;
@@ -13,6 +16,10 @@ pub struct HostTexts<'r> {
 }
 
 impl Texts for HostTexts<'_> {
+    fn name(&self, alloc: Global, file: &str, word: &str) -> Result<String, AllocError> {
+        name_beside(alloc, file, word)
+    }
+
     fn text(&mut self, alloc: Global, name: &str) -> Result<Vec<u8>, ErrorKind> {
         match fs::metadata(self.rt, name) {
             Ok(found) if found.is_file() => {}

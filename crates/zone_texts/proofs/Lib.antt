@@ -1,1 +1,6 @@
+pub mod Alone
+pub mod Digits
 pub mod Fallbacks
+pub mod Generated
+pub mod Parts
+pub mod Whole

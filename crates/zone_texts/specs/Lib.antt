@@ -1,1 +1,5 @@
+pub mod Generation
+pub mod Inclusions
+pub mod Parts
+pub mod Patterns
 pub mod Readings

@@ -4,6 +4,7 @@ use Rattle.zone_proto.specs.Names.{Name}
 use Rattle.zone_file.specs.declared.error.ZoneFault.{ZoneFault}
 use Rattle.zone_file.specs.declared.placed.PlacedRecord.{PlacedRecord}
 use Rattle.zone_texts.specs.declared.fault.FileFault.{FileFault}
+use Rattle.zone_texts.specs.declared.state.Reading.{Reading}
 use Rattle.zone_file.specs.Zones.{EndsIn, Read, zone_of}
 
 -- a text is that of a zone file by itself, with these records; or it isn't, as where it includes another
@@ -13,3 +14,7 @@ IsReadOf origin text records = (zone_of origin text ≡ map Read records) ⊎ ((
 -- faults, of which so many are kept, and one more
 abbrev pub with_fault : ℕ → List FileFault → FileFault → List FileFault
 with_fault most fs f = if nat_lt (length fs) most then fs ++ f ∷ [] else fs
+
+-- no fault was found
+abbrev pub IsFaultless : Reading → Type 0
+IsFaultless r = (r.faults.items ≡ []) × (r.more_faults ≡ 0)

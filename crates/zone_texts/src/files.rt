@@ -1,6 +1,7 @@
 //! A zone file, read with the files that it includes.
 ghost use Rattle.std.specs.Prelude.{◌≡◌, List, ℕ, Some, IfOk};
-ghost use Rattle.zone_texts.specs.Readings.{IsReadOf};
+ghost use Rattle.zone_texts.specs.Inclusions.{Files, records_of};
+ghost use Rattle.zone_texts.specs.Readings.{IsFaultless, IsReadOf};
 
 use crate::fault::{FileFault, What};
 use crate::lines::count_lines;
@@ -51,6 +52,7 @@ impl<T: Drop> From<AllocFailed<T>> for FilesError {
 /// # Errors
 ///
 /// `Input` if a read failed; `Memory` if there isn't enough.
+#[tactic(auto, using(crate::proofs::Whole::records_alone))]
 pub fn read_files<R: Read, T: Texts>(
     alloc: Global,
     origin: Name,
@@ -60,8 +62,12 @@ pub fn read_files<R: Read, T: Texts>(
     most: usize,
 ) -> Result<Reading, FilesError>
     // Where it is known what the input has left, as of a slice, that is the file's text.
-    ensures { IfOk result (λ reading. (text : List ℕ) → R.remaining input.old ≡ Some text →
+    ensures alone { IfOk result (λ reading. (text : List ℕ) → R.remaining input.old ≡ Some text →
         IsReadOf origin text reading.records.items) }
+    // Where files are known, with that text, what has no fault is their records.
+    ensures included { IfOk result (λ reading. (text : List ℕ) → R.remaining input.old ≡ Some text →
+        (files : Files) → T.known texts.old ≡ Some files → files.text file.now ≡ text →
+        IsFaultless reading → records_of files origin file.now ≡ Some reading.records.items) }
 {
     let Ok(again) = origin.clone() else {
         return Err(FilesError::Memory);
@@ -81,7 +87,7 @@ fn whole(
     records: Vec<PlacedRecord>,
     most: usize,
 ) -> Result<Reading, AllocError>
-    ensures { IfOk result (λ reading. reading.records ≡ records) }
+    ensures records { IfOk result (λ reading. reading.records ≡ records) }
 {
     Ok(Reading {
         records,
@@ -100,7 +106,10 @@ fn read_again<T: Texts>(
     first: ZoneFault,
     texts: &mut T,
     most: usize,
-) -> Result<Reading, FilesError> {
+) -> Result<Reading, FilesError>
+    ensures { IfOk result (λ reading. (files : Files) → T.known texts.old ≡ Some files →
+        IsFaultless reading → records_of files origin file.now ≡ Some reading.records.items) }
+{
     match texts.text(alloc, file) {
         Ok(text) => Ok(read_whole(alloc, origin, file, text.as_slice(), texts, most)?),
         Err(ErrorKind::OutOfMemory) => Err(FilesError::Memory),
@@ -127,7 +136,11 @@ fn read_whole<T: Texts>(
     text: &[u8],
     texts: &mut T,
     most: usize,
-) -> Result<Reading, AllocError> {
+) -> Result<Reading, AllocError>
+    ensures { IfOk result (λ reading. (files : Files) → T.known texts.old ≡ Some files →
+        files.text file.now ≡ text.now → IsFaultless reading →
+        records_of files origin file.now ≡ Some reading.records.items) }
+{
     let mut reading = whole(alloc, file, Vec::new(alloc), most)?;
     reading.sources.lines = count_lines(text).saturating_add(1);
     let mut context = Context {
@@ -136,13 +149,18 @@ fn read_whole<T: Texts>(
         ttl: None,
         last_ttl: None,
     };
-    let part = Part { file: 0, lines: 0 };
+    let part = Part {
+        file: 0,
+        before: 0,
+        lines: 0,
+    };
     read_text(
         alloc,
         texts,
         &mut reading,
         &mut context,
         part,
+        file,
         text,
         MOST_OPEN - 1,
     )?;

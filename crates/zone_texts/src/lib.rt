@@ -4,11 +4,13 @@
 //! No file is opened here: a program gives the texts of files by their names (`Texts`).
 #![tactic(auto)]
 
+mod cuts;
 mod directives;
 mod fault;
 mod files;
 mod generate;
 mod lines;
+mod numbers;
 mod pattern;
 mod reading;
 mod sources;

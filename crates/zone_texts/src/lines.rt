@@ -1,4 +1,5 @@
 //! Lines of a text, as they are counted: by line feeds.
+ghost use Rattle.std.specs.Prelude.{◌≡◌, ◌==◌, min, count_by};
 
 /// Three octets that some editors put before a text: a byte order mark in UTF-8.
 const BYTE_ORDER_MARK: &[u8] = b"\xef\xbb\xbf";
@@ -9,14 +10,10 @@ pub(crate) fn behind_mark(text: &[u8]) -> Option<&[u8]> {
 }
 
 /// How many line feeds a text has.
-pub(crate) fn count_lines(text: &[u8]) -> u64 {
-    let mut count = 0u64;
-    for octet in text {
-        if *octet == b'\n' {
-            count = count.saturating_add(1);
-        }
-    }
-    count
+pub(crate) fn count_lines(text: &[u8]) -> u64
+    ensures { result ≡ count_by (λ b. b == 10) text.now }
+{
+    text.iter().filter(|octet| **octet == b'\n').count() as u64
 }
 
 /// How many octets stand before the first line behind a line that begins with an owner or a control entry: with no blank, no

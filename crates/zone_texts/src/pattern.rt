@@ -1,16 +1,16 @@
 //! The words of a `$GENERATE`, as BIND reads them: its range, and what is made of a pattern for a number.
-ghost use Rattle.std.specs.Prelude.{◌≤◌, IfOk};
+ghost use Rattle.std.specs.Prelude.{◌≡◌, ◌++◌, ◌∷◌, ◌<◌, ◌&&◌, ◌==◌, [], Some, None, length, IfOk, IfSome, OnOk, MatchOption, option_map};
+ghost use Rattle.zone_texts.specs.Generation.{count_of, is_range, range_behind, range_of, range_of_parts};
+ghost use Rattle.zone_texts.specs.Patterns.{after_octet, base_of, cut_at, escaped_text, filled, inside_after, modified, dollar_text, octet_text, parts_of, plain_number, plain_text, text_at_end, with_offset};
 
+use crate::cuts::cut_at;
 use crate::fault::What;
-use line_text::read_u32;
+use crate::numbers::push_number;
+use line_text::{read_u8, read_u32};
 use std::alloc::{AllocError, AllocFailed, Global};
-use std::str;
 
 /// The most records that one entry may make.
-const MOST_RECORDS: u32 = 65_536;
-
-/// The most characters that a number is filled up to.
-const MOST_WIDTH: u32 = 255;
+const MOST_RECORDS: u64 = 65_536;
 
 /// The greatest number of a range.
 const MOST: u32 = 2_147_483_647;
@@ -48,240 +48,357 @@ pub(crate) struct Range {
 
 impl Range {
     /// How many numbers it has.
-    pub(crate) fn count(self) -> u64 {
+    pub(crate) fn count(self) -> u64
+        ensures { result ≡ count_of self }
+    {
         if self.step == 0 {
             return 0;
         }
-        (self.last.saturating_sub(self.first) / self.step) as u64 + 1
+        u64::from(self.last.saturating_sub(self.first) / self.step) + 1
+    }
+
+    /// Whether it is one of a `$GENERATE`, but for how many numbers it has.
+    fn ascends(self) -> bool {
+        self.step != 0 && self.first <= self.last && self.last <= MOST
+    }
+
+    /// Whether it is one of a `$GENERATE`.
+    fn is_range(self) -> bool
+        ensures { result ≡ is_range self }
+    {
+        if self.step == 0 || self.last < self.first || self.last > MOST {
+            return false;
+        }
+        self.count() <= MOST_RECORDS
     }
 }
 
 /// Reads a range, `FIRST-LAST` or `FIRST-LAST/STEP`.
 pub(crate) fn read_range(word: &[u8]) -> Result<Range, What>
-    ensures step { IfOk result (λ r. 1 ≤ r.step) }
-    ensures order { IfOk result (λ r. r.first ≤ r.last) }
-    ensures most { IfOk result (λ r. r.last ≤ 2147483647) }
+    ensures { IfOk result (λ r. range_of word.now ≡ Some r) }
 {
     let Some(range) = range_of(word) else {
         return Err(What::Range);
     };
-    if range.step == 0 || range.last < range.first || range.last > MOST {
-        return Err(What::Range);
+    if range.is_range() {
+        return Ok(range);
     }
-    if range.count() > MOST_RECORDS as u64 {
-        return Err(What::TooManyRecords);
-    }
-    Ok(range)
-}
-
-fn range_of(word: &[u8]) -> Option<Range> {
-    let text = str::from_utf8(word).ok()?;
-    let (first, behind) = text.split_once('-')?;
-    let (last, step) = match behind.split_once('/') {
-        Some((last, step)) => (last, read_u32(step.as_bytes())?),
-        None => (behind, 1),
-    };
-    Some(Range {
-        first: read_u32(first.as_bytes())?,
-        last: read_u32(last.as_bytes())?,
-        step,
+    Err(if range.ascends() {
+        What::TooManyRecords
+    } else {
+        What::Range
     })
 }
 
+fn range_of(word: &[u8]) -> Option<Range>
+    ensures { result ≡ range_of_parts (cut_at 45 word.now) }
+{
+    let (first, behind) = cut_at(word, b'-')?;
+    range_behind(first, behind)
+}
+
+/// The range of its first number and what stands behind that.
+fn range_behind(first: &[u8], behind: &[u8]) -> Option<Range>
+    ensures { result ≡ range_of_parts (Some (first.now, behind.now)) }
+{
+    match cut_at(behind, b'/') {
+        Some((last, step)) => Some(Range {
+            first: read_u32(first)?,
+            last: read_u32(last)?,
+            step: read_u32(step)?,
+        }),
+        None => Some(Range {
+            first: read_u32(first)?,
+            last: read_u32(behind)?,
+            step: 1,
+        }),
+    }
+}
+
 /// What stands before an octet of a pattern.
-#[derive(Clone, Copy)]
-enum Before {
+#[derive(Clone, Copy, PartialEq, Eq, Debug)]
+pub(crate) enum Before {
     /// Nothing that matters.
     Plain,
     /// A backslash.
     Escape,
     /// A `$`.
     Dollar,
-    /// A `$` and a brace, behind which this octet of the pattern stands.
-    Brace(usize),
+    /// A `$` and a brace, and what stands in it.
+    Brace,
+}
+
+impl Before {
+    /// What stands before the next octet.
+    fn behind(self, octet: u8) -> Before
+        ensures { result ≡ after_octet self octet }
+    {
+        match self {
+            Before::Plain => after_plain(octet),
+            Before::Escape => Before::Plain,
+            Before::Dollar => match octet {
+                b'$' => Before::Plain,
+                b'{' => Before::Brace,
+                _ => after_plain(octet),
+            },
+            Before::Brace => {
+                if octet == b'}' {
+                    Before::Plain
+                } else {
+                    Before::Brace
+                }
+            }
+        }
+    }
+}
+
+fn after_plain(octet: u8) -> Before
+    ensures { result ≡ after_octet Before.Plain octet }
+{
+    match octet {
+        b'$' => Before::Dollar,
+        b'\\' => Before::Escape,
+        _ => Before::Plain,
+    }
 }
 
 /// Appends what a pattern makes of a number: `$` is the number, `${OFFSET,WIDTH,BASE}` a sum in a form, `$$` and `\$` are a `$`. Of a
 /// pattern in quotes, `\"` is a quote.
 pub(crate) fn push_pattern(
+    alloc: Global,
     line: &mut Vec<u8>,
     pattern: &[u8],
     is_quoted: bool,
-    number: u32,
-) -> Result<(), PatternError> {
+    number: u64,
+) -> Result<(), PatternError>
+    ensures { OnOk result (option_map (λ s. line.old.items ++ s)
+        (filled is_quoted number pattern.now) ≡ Some line.new.items) }
+{
     let mut before = Before::Plain;
-    for (at, octet) in pattern.iter().enumerate() {
-        let octet = *octet;
-        before = match before {
-            Before::Plain => push_plain(line, octet)?,
-            Before::Escape => {
-                if octet != b'"' || !is_quoted {
-                    line.push(b'\\')?;
-                }
-                line.push(octet)?;
-                Before::Plain
-            }
-            Before::Dollar => match octet {
-                b'$' => {
-                    line.extend_from_slice(b"\\$")?;
-                    Before::Plain
-                }
-                b'{' => Before::Brace(at.saturating_add(1)),
-                _ => {
-                    push_number(line, number as u64, 10, 0, false)?;
-                    push_plain(line, octet)?
-                }
-            },
-            Before::Brace(start) => {
-                if octet == b'}' {
-                    let modifier = pattern.get(start..at).unwrap_or(&[]);
-                    push_modified(line, modifier, number)?;
-                    Before::Plain
-                } else {
-                    Before::Brace(start)
-                }
-            }
-        };
+    let mut inside = Vec::new(alloc);
+    for octet in pattern {
+        push_octet(
+            alloc,
+            line,
+            is_quoted,
+            number,
+            before,
+            inside.as_slice(),
+            *octet,
+        )?;
+        put_inside(&mut inside, before, *octet)?;
+        before = before.behind(*octet);
     }
-    match before {
-        Before::Plain => Ok(()),
-        Before::Escape => Ok(line.push(b'\\')?),
-        Before::Dollar => Ok(push_number(line, number as u64, 10, 0, false)?),
-        Before::Brace(_) => Err(PatternError::Wrong(What::Modifier)),
-    }
+    push_end(alloc, line, number, before)
 }
 
-/// Appends an octet behind nothing that matters, unless it begins something.
-fn push_plain(line: &mut Vec<u8>, octet: u8) -> Result<Before, AllocError> {
-    match octet {
-        b'$' => Ok(Before::Dollar),
-        b'\\' => Ok(Before::Escape),
-        _ => {
-            line.push(octet)?;
-            Ok(Before::Plain)
+/// Appends what an octet of a pattern makes of a number, behind what stands before it.
+fn push_octet(
+    alloc: Global,
+    line: &mut Vec<u8>,
+    is_quoted: bool,
+    number: u64,
+    before: Before,
+    inside: &[u8],
+    octet: u8,
+) -> Result<(), PatternError>
+    ensures { OnOk result (option_map (λ s. line.old.items ++ s)
+        (octet_text is_quoted number before inside.now octet) ≡ Some line.new.items) }
+{
+    match before {
+        Before::Plain => Ok(push_plain(line, octet)?),
+        Before::Escape => Ok(push_escaped(line, is_quoted, octet)?),
+        Before::Dollar => Ok(push_behind_dollar(alloc, line, number, octet)?),
+        Before::Brace => {
+            if octet == b'}' {
+                push_modified(alloc, line, inside, number)
+            } else {
+                Ok(())
+            }
         }
     }
 }
 
+/// Appends an octet behind nothing that matters, unless it begins something.
+fn push_plain(line: &mut Vec<u8>, octet: u8) -> Result<(), AllocError>
+    ensures { OnOk result (line.new.items ≡ line.old.items ++ plain_text octet) }
+{
+    if octet != b'$' && octet != b'\\' {
+        line.push(octet)?;
+    }
+    Ok(())
+}
+
+/// Appends an octet behind a backslash.
+fn push_escaped(line: &mut Vec<u8>, is_quoted: bool, octet: u8) -> Result<(), AllocError>
+    ensures { OnOk result (line.new.items ≡ line.old.items ++ escaped_text is_quoted octet) }
+{
+    if !(is_quoted && octet == b'"') {
+        line.push(b'\\')?;
+    }
+    line.push(octet)?;
+    Ok(())
+}
+
+/// Appends what an octet behind a `$` makes of a number.
+fn push_behind_dollar(
+    alloc: Global,
+    line: &mut Vec<u8>,
+    number: u64,
+    octet: u8,
+) -> Result<(), AllocError>
+    ensures { OnOk result (line.new.items ≡ line.old.items ++ dollar_text number octet) }
+{
+    match octet {
+        b'$' => line.extend_from_slice(b"\\$"),
+        b'{' => Ok(()),
+        _ => {
+            push_number(alloc, line, Base::Decimal, 0, number)?;
+            push_plain(line, octet)
+        }
+    }
+}
+
+/// Keeps an octet of a brace that is open.
+fn put_inside(inside: &mut Vec<u8>, before: Before, octet: u8) -> Result<(), AllocError>
+    ensures { OnOk result (inside.new.items ≡ inside_after before inside.old.items octet) }
+{
+    if before == Before::Brace && octet != b'}' {
+        inside.push(octet)?;
+        return Ok(());
+    }
+    inside.clear();
+    Ok(())
+}
+
+/// Appends what the end of a pattern makes of a number.
+fn push_end(
+    alloc: Global,
+    line: &mut Vec<u8>,
+    number: u64,
+    before: Before,
+) -> Result<(), PatternError>
+    ensures { OnOk result (option_map (λ s. line.old.items ++ s) (text_at_end number before)
+        ≡ Some line.new.items) }
+{
+    match before {
+        Before::Plain => Ok(()),
+        Before::Escape => Ok(line.push(b'\\')?),
+        Before::Dollar => Ok(push_number(alloc, line, Base::Decimal, 0, number)?),
+        Before::Brace => Err(PatternError::Wrong(What::Modifier)),
+    }
+}
+
 /// In which form a number is written.
-#[derive(Clone, Copy)]
-enum Base {
-    /// To a base, in small letters or in capitals.
-    Digits(u64, bool),
+#[derive(Clone, Copy, PartialEq, Eq, Debug)]
+pub(crate) enum Base {
+    /// To the base 8.
+    Octal,
+    /// To the base 10.
+    Decimal,
+    /// To the base 16, in small letters or in capitals.
+    Hex(bool),
     /// In hex, the last digit first and a dot between two: names below ip6.arpa.
     Nibbles(bool),
 }
 
 /// Appends the number with what stands in braces behind the `$`.
-fn push_modified(line: &mut Vec<u8>, modifier: &[u8], number: u32) -> Result<(), PatternError> {
-    let Some((offset, width, base)) = modifier_of(modifier) else {
+#[tactic(auto, unfolding(crate::specs::Patterns::modified))]
+fn push_modified(
+    alloc: Global,
+    line: &mut Vec<u8>,
+    inside: &[u8],
+    number: u64,
+) -> Result<(), PatternError>
+    ensures { OnOk result (option_map (λ s. line.old.items ++ s) (modified number inside.now)
+        ≡ Some line.new.items) }
+{
+    let parts = parts_of(inside);
+    let (Some(width), Some(base)) = (parts.width, parts.base) else {
         return Err(PatternError::Wrong(What::Modifier));
     };
-    let sum = number as i64 + offset as i64;
-    let Ok(sum) = u64::try_from(sum) else {
-        return Err(PatternError::Wrong(What::Negative));
-    };
-    match base {
-        Base::Digits(base, is_capital) => push_number(line, sum, base, width, is_capital)?,
-        Base::Nibbles(is_capital) => push_nibbles(line, sum, width, is_capital)?,
+    match with_offset(number, parts.offset) {
+        Some(sum) => Ok(push_number(alloc, line, base, width, sum)?),
+        None => Err(PatternError::Wrong(if is_offset(parts.offset) {
+            What::Negative
+        } else {
+            What::Modifier
+        })),
     }
-    Ok(())
 }
 
-/// The offset, the width and the base that a modifier names. The width is 0 and the base 10 where they are left out.
-fn modifier_of(modifier: &[u8]) -> Option<(i32, u32, Base)> {
-    let text = str::from_utf8(modifier).ok()?;
-    let (offset, behind) = match text.split_once(',') {
-        Some((offset, behind)) => (offset, Some(behind)),
-        None => (text, None),
+/// The parts of what stands in braces. The width is 0 and the base 10 where they are left out.
+#[derive(Clone, Copy)]
+struct Parts<'p> {
+    offset: &'p [u8],
+    width: Option<u8>,
+    base: Option<Base>,
+}
+
+fn parts_of(inside: &[u8]) -> Parts<'_>
+    ensures { (result.offset.now, (result.width, result.base)) ≡ parts_of inside.now }
+{
+    let Some((offset, behind)) = cut_at(inside, b',') else {
+        return Parts {
+            offset: inside,
+            width: Some(0),
+            base: Some(Base::Decimal),
+        };
     };
-    let (width, base) = match behind {
-        None => ("0", "d"),
-        Some(behind) => match behind.split_once(',') {
-            Some((width, base)) => (width, base),
-            None => (behind, "d"),
+    match cut_at(behind, b',') {
+        Some((width, base)) => Parts {
+            offset,
+            width: read_u8(width),
+            base: base_of(base),
         },
-    };
-    let width = read_u32(width.as_bytes())?;
-    if width > MOST_WIDTH {
-        return None;
-    }
-    Some((offset.parse::<i32>().ok()?, width, base_of(base)?))
-}
-
-fn base_of(word: &str) -> Option<Base> {
-    match word {
-        "d" => Some(Base::Digits(10, false)),
-        "o" => Some(Base::Digits(8, false)),
-        "x" => Some(Base::Digits(16, false)),
-        "X" => Some(Base::Digits(16, true)),
-        "n" => Some(Base::Nibbles(false)),
-        "N" => Some(Base::Nibbles(true)),
-        _ => None,
+        None => Parts {
+            offset,
+            width: read_u8(behind),
+            base: Some(Base::Decimal),
+        },
     }
 }
 
-/// Appends a number to a base from 2 to 16, filled up with zeros before it to a width.
-fn push_number(
-    line: &mut Vec<u8>,
-    number: u64,
-    base: u64,
-    width: u32,
-    is_capital: bool,
-) -> Result<(), AllocError> {
-    let mut place = 1u64;
-    let mut digits = 1u32;
-    for _ in 0..64 {
-        if number / place.max(1) < base {
-            break;
-        }
-        place = place.saturating_mul(base);
-        digits = digits.saturating_add(1);
+fn base_of(word: &[u8]) -> Option<Base>
+    ensures { result ≡ base_of word.now }
+{
+    if word == b"d".as_slice() {
+        return Some(Base::Decimal);
     }
-    for _ in digits..width {
-        line.push(b'0')?;
+    if word == b"o".as_slice() {
+        return Some(Base::Octal);
     }
-    for _ in 0..digits {
-        line.push(digit(number / place.max(1) % base.max(1), is_capital))?;
-        place = place / base.max(1);
+    if word == b"x".as_slice() {
+        return Some(Base::Hex(false));
     }
-    Ok(())
+    if word == b"X".as_slice() {
+        return Some(Base::Hex(true));
+    }
+    if word == b"n".as_slice() {
+        return Some(Base::Nibbles(false));
+    }
+    if word == b"N".as_slice() {
+        return Some(Base::Nibbles(true));
+    }
+    None
 }
 
-/// Appends the hex digits of a number, the last one first and a dot between two, filled up with zeros to a width that counts the dots.
-fn push_nibbles(
-    line: &mut Vec<u8>,
-    number: u64,
-    width: u32,
-    is_capital: bool,
-) -> Result<(), AllocError> {
-    let mut left = number;
-    let mut room = width;
-    for _ in 0..MOST_WIDTH {
-        line.push(digit(left % 16, is_capital))?;
-        left = left / 16;
-        room = room.saturating_sub(1);
-        if left == 0 && room == 0 {
-            return Ok(());
-        }
-        line.push(b'.')?;
-        room = room.saturating_sub(1);
-        if left == 0 && room == 0 {
-            return Ok(());
-        }
+/// A number with an offset, which may have a sign. None where the sum is below 0, or this is no offset.
+fn with_offset(number: u64, offset: &[u8]) -> Option<u64>
+    ensures { IfSome result (λ sum. with_offset number offset.now ≡ Some sum) }
+{
+    match offset {
+        [] => None,
+        [b'-', by @ ..] => number.checked_sub(u64::from(read_u32(by)?)),
+        [b'+', by @ ..] => number.checked_add(u64::from(read_u32(by)?)),
+        _ => number.checked_add(u64::from(read_u32(offset)?)),
     }
-    Ok(())
 }
 
-/// A digit below 16 as a character.
-fn digit(value: u64, is_capital: bool) -> u8 {
-    let digits: &[u8] = if is_capital {
-        b"0123456789ABCDEF"
-    } else {
-        b"0123456789abcdef"
-    };
-    match digits.get(value as usize) {
-        Some(digit) => *digit,
-        None => b'0',
+/// Whether this is an offset.
+fn is_offset(offset: &[u8]) -> bool {
+    match offset {
+        [b'-' | b'+', by @ ..] => read_u32(by).is_some(),
+        _ => read_u32(offset).is_some(),
     }
 }

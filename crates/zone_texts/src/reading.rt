@@ -1,11 +1,17 @@
 //! The records of a text and of those that it includes.
+ghost use Rattle.std.specs.Prelude.{◌≡◌, ℕ, List, [], Option, Some, IfOk, OnOk, IsNone, IfSome, string_bytes};
+ghost use Rattle.zone_scanner.specs.Entries.{events_of};
+ghost use Rattle.zone_scanner.specs.Steps.{events_from};
+ghost use Rattle.zone_texts.specs.Inclusions.{Files, Gathered, entries_read, file_read, gathered, included, origin_in, with_lines};
+ghost use Rattle.zone_texts.specs.Parts.{IsOpened, IsTold, IsWithin, read_behind};
+ghost use Rattle.zone_texts.specs.Readings.{IsFaultless};
 
 use crate::directives::{Inclusion, take_entry};
 use crate::fault::What;
 use crate::lines::{behind_mark, count_lines, octets_before_start};
 use crate::sources::FilePlace;
 use crate::state::{Part, Reading, copy_if_any, copy_of};
-use crate::texts::{Texts, name_beside};
+use crate::texts::Texts;
 use record_fields::Reason;
 use std::alloc::{AllocError, Global};
 use std::io::ErrorKind;
@@ -17,63 +23,112 @@ use zone_scanner::{EntryError, EntryFault, EntryReader, Place};
 /// The most files that one file and those that it includes may include.
 const MOST_FILES: usize = 1_000;
 
-/// Why a part of a text ends.
+/// What a text goes on with behind a part that was read.
 #[derive(Drop)]
-enum Stop {
-    /// The text ends.
+enum Next {
+    /// Nothing: the text ends.
     End,
-    /// The text can't be cut into entries on this line of the part.
-    Cut(u64),
-    /// A file is included.
-    Include(Inclusion),
+    /// The text can't be cut into entries, and goes on behind so many octets of it, where an entry may begin.
+    Cut(usize),
+    /// A file is included; the text goes on behind so many octets of it.
+    Include(Inclusion, EntryReader, usize),
 }
 
-/// Reads a text, and the texts that it includes, within so many others. What is left behind it is in the context.
+/// Reads a text of the file of a name, and the texts that it includes, within so many others. What is left behind it is in the context.
+#[cycle(reading)]
 pub(crate) fn read_text<T: Texts>(
     alloc: Global,
     texts: &mut T,
     reading: &mut Reading,
     context: &mut Context,
     part: Part,
+    name: &str,
     text: &[u8],
     depth: u32,
-) -> Result<(), AllocError> {
+) -> Result<(), AllocError>
+    ensures before { OnOk result (IsFaultless reading.new → IsFaultless reading.old) }
+    ensures known { OnOk result (T.known texts.new ≡ T.known texts.old) }
+    ensures read { OnOk result (part.lines ≡ 0 → IsFaultless reading.new →
+        (files : Files) → T.known texts.old ≡ Some files →
+        entries_read (file_read files depth) (files.beside name.now) part.before
+        (events_of text.now)
+        (gathered context.old reading.old.records.items reading.old.sources.lines)
+        ≡ Some (gathered context.new reading.new.records.items reading.new.sources.lines)) }
+{
     let mut part = part;
     let mut rest = text;
     if let Some(behind) = behind_mark(text) {
         reading.tell(part.place(Place::first()), What::ByteOrderMark)?;
         rest = behind;
     }
-    for _ in 0..u64::MAX {
-        let (count, stop) = read_part(alloc, reading, context, part, rest)?;
-        let count = match stop {
-            Stop::End => return Ok(()),
-            Stop::Cut(line) => octets_before_start(rest, line),
-            Stop::Include(
-                Inclusion {
-                    place,
-                    name,
-                    origin,
-                },
-            ) => {
-                let outer = enter(context, origin)?;
-                let at = part.place(place);
-                let opened = open(alloc, texts, reading, at, name.as_slice(), depth)?;
-                if let Some((file, text)) = opened {
-                    let inner = Part { file, lines: 0 };
-                    if depth > 0 {
-                        let text = text.as_slice();
-                        read_text(alloc, texts, reading, context, inner, text, depth - 1)?;
-                    }
-                }
-                leave(context, outer);
-                count
+    let mut entries = EntryReader::new(alloc);
+    'parts: for _ in 0..u64::MAX {
+        match next_part(alloc, reading, context, part, entries, rest)? {
+            Next::End => return Ok(()),
+            Next::Cut(count) => {
+                let (taken, behind) = rest.split_at(count.min(rest.len()));
+                part.lines = part.lines.saturating_add(count_lines(taken));
+                rest = behind;
+                entries = EntryReader::new(alloc);
             }
-        };
-        let (taken, behind) = rest.split_at(count.min(rest.len()));
-        part.lines = part.lines.saturating_add(count_lines(taken));
-        rest = behind;
+            Next::Include(inclusion, behind, count) => {
+                include(alloc, texts, reading, context, part, name, inclusion, depth)?;
+                rest = &rest[count..];
+                entries = behind;
+            }
+        }
     }
+    Err(AllocError)
+}
+
+/// Reads the file that a text of the file of a name includes, within so many others.
+#[cycle(reading)]
+#[tactic(auto, using(crate::proofs::Parts::included_so))]
+fn include<T: Texts>(
+    alloc: Global,
+    texts: &mut T,
+    reading: &mut Reading,
+    context: &mut Context,
+    part: Part,
+    name: &str,
+    inclusion: Inclusion,
+    depth: u32,
+) -> Result<(), AllocError>
+    ensures before { OnOk result (IsFaultless reading.new → IsFaultless reading.old) }
+    ensures known { OnOk result (T.known texts.new ≡ T.known texts.old) }
+    ensures read { OnOk result (IsFaultless reading.new →
+        (files : Files) → T.known texts.old ≡ Some files →
+        included (file_read files depth) (files.beside name.now) inclusion.name.items
+        inclusion.origin
+        (gathered context.old reading.old.records.items reading.old.sources.lines)
+        ≡ Some (gathered context.new reading.new.records.items reading.new.sources.lines)) }
+{
+    let Inclusion {
+        place,
+        name: word,
+        origin,
+    } = inclusion;
+    let outer = enter(context, origin)?;
+    let at = part.place(place);
+    let Some(opened) = open(alloc, texts, reading, at, name, word.as_slice(), depth)? else {
+        leave(context, outer);
+        return Ok(());
+    };
+    if depth == 0 {
+        leave(context, outer);
+        return Ok(());
+    }
+    read_text(
+        alloc,
+        texts,
+        reading,
+        context,
+        opened.part,
+        opened.name.as_str(),
+        opened.text.as_slice(),
+        depth - 1,
+    )?;
+    leave(context, outer);
     Ok(())
 }
 
@@ -85,7 +140,11 @@ struct Outer {
 }
 
 /// Enters a text that is included, with its origin if one is named for it, and gives what is left for the one that includes it.
-fn enter(context: &mut Context, origin: Option<Name>) -> Result<Outer, AllocError> {
+fn enter(context: &mut Context, origin: Option<Name>) -> Result<Outer, AllocError>
+    ensures outer { IfOk result
+        (λ outer. outer ≡ record { origin = context.old.origin; owner = context.old.owner }) }
+    ensures inner { OnOk result (context.new ≡ origin_in origin context.old) }
+{
     let outer = Outer {
         origin: copy_of(&context.origin)?,
         owner: copy_if_any(&context.owner)?,
@@ -97,27 +156,46 @@ fn enter(context: &mut Context, origin: Option<Name>) -> Result<Outer, AllocErro
 }
 
 /// Goes back to the text that includes another: its origin and its last owner are as they were.
-fn leave(context: &mut Context, outer: Outer) {
+fn leave(context: &mut Context, outer: Outer)
+    ensures { context.new
+        ≡ record context.old { origin = outer.origin; owner = outer.owner } }
+{
     let Outer { origin, owner } = outer;
     context.origin = origin;
     context.owner = owner;
 }
 
-/// Opens the file that an entry at a place includes by this name, and gives its number and its text. None where it can't be, which is
-/// told.
+/// A file that was opened: where its text stands, its name and its text.
+#[derive(Drop)]
+struct Opened {
+    part: Part,
+    name: String,
+    text: Vec<u8>,
+}
+
+/// Opens the file that an entry at a place of the file of a name includes. None where it can't be, which is told.
 fn open<T: Texts>(
     alloc: Global,
     texts: &mut T,
     reading: &mut Reading,
     at: FilePlace,
-    named: &[u8],
+    file: &str,
+    word: &[u8],
     depth: u32,
-) -> Result<Option<(usize, Vec<u8>)>, AllocError> {
-    let Ok(named) = str::from_utf8(named) else {
+) -> Result<Option<Opened>, AllocError>
+    ensures known { OnOk result (T.known texts.new ≡ T.known texts.old) }
+    ensures before { OnOk result (IsFaultless reading.new → IsFaultless reading.old) }
+    ensures records { reading.new.records ≡ reading.old.records }
+    ensures none { IfOk result (λ opened. IsNone opened → IsFaultless reading.new → ⊥) }
+    ensures some { IfOk result (λ opened. IfSome opened (λ o. (files : Files) →
+        T.known texts.old ≡ Some files → IsOpened files file.now word.now depth
+        reading.old.sources.lines reading.new.sources.lines o)) }
+{
+    let Ok(word) = str::from_utf8(word) else {
         reading.tell(at, What::FileName)?;
         return Ok(None);
     };
-    let name = name_beside(alloc, reading.sources.name(at.file), named)?;
+    let name = texts.name(alloc, file, word)?;
     let what = if reading.sources.is_open(name.as_str(), at.file) {
         What::Loop(name)
     } else if depth == 0 {
@@ -126,11 +204,7 @@ fn open<T: Texts>(
         What::TooMany(name)
     } else {
         match texts.text(alloc, name.as_str()) {
-            Ok(text) => {
-                let lines = count_lines(text.as_slice()).saturating_add(1);
-                let file = reading.sources.open(name, lines, Some(at))?;
-                return Ok(Some((file, text)));
-            }
+            Ok(text) => return Ok(Some(put_file(reading, at, name, text)?)),
             Err(ErrorKind::OutOfMemory) => return Err(AllocError),
             Err(kind) => What::Unreadable(name, kind),
         }
@@ -139,54 +213,133 @@ fn open<T: Texts>(
     Ok(None)
 }
 
-/// Reads a part of a text up to where it can't be cut into entries, or a file is included, or to its end. Gives why it ends, and how
-/// many octets were read.
-fn read_part(
+/// Puts a file behind the others.
+fn put_file(
+    reading: &mut Reading,
+    at: FilePlace,
+    name: String,
+    text: Vec<u8>,
+) -> Result<Opened, AllocError>
+    ensures faults { reading.new.faults ≡ reading.old.faults }
+    ensures more_faults { reading.new.more_faults ≡ reading.old.more_faults }
+    ensures records { reading.new.records ≡ reading.old.records }
+    ensures lines { OnOk result
+        (reading.new.sources.lines ≡ with_lines reading.old.sources.lines text.items) }
+    ensures before { IfOk result (λ o. o.part.before ≡ reading.old.sources.lines) }
+    ensures begin { IfOk result (λ o. o.part.lines ≡ 0) }
+    ensures name { IfOk result (λ o. string_bytes o.name ≡ string_bytes name) }
+    ensures text { IfOk result (λ o. o.text.items ≡ text.items) }
+{
+    let before = reading.sources.lines;
+    let lines = count_lines(text.as_slice()).saturating_add(1);
+    let known = name.clone()?;
+    let file = reading.sources.open(known, lines, Some(at))?;
+    Ok(Opened {
+        part: Part {
+            file,
+            before,
+            lines: 0,
+        },
+        name,
+        text,
+    })
+}
+
+/// Reads a part of a text up to where it can't be cut into entries, or a file is included, or to its end, and gives what it goes on with.
+fn next_part(
     alloc: Global,
     reading: &mut Reading,
     context: &mut Context,
     part: Part,
+    entries: EntryReader,
     text: &[u8],
-) -> Result<(usize, Stop), AllocError> {
-    let mut entries = EntryReader::new(alloc);
+) -> Result<Next, AllocError>
+    ensures before { OnOk result (IsFaultless reading.new → IsFaultless reading.old) }
+    ensures within { IfOk result (λ next. IsWithin text.now next) }
+    ensures cut { IfOk result (λ next. IsTold reading.new next) }
+    ensures read { IfOk result (λ next. part.lines ≡ 0 → IsFaultless reading.new →
+        (inner : List ℕ → Gathered → Option Gathered) (beside : List ℕ → List ℕ) →
+        entries_read inner beside part.before (events_from text.now entries)
+        (gathered context.old reading.old.records.items reading.old.sources.lines)
+        ≡ read_behind inner beside part.before text.now next
+        (gathered context.new reading.new.records.items reading.new.sources.lines)) }
+{
+    let mut entries = entries;
     let mut at = 0usize;
-    for _ in 0..u64::MAX {
-        let (_, rest) = text.split_at(at.min(text.len()));
-        if rest.is_empty() {
-            break;
-        }
-        match entries.take_entry(alloc, rest) {
+    while at < text.len() {
+        match entries.take_entry(alloc, &text[at..]) {
             Ok((count, entry)) => {
-                at = at.saturating_add(count);
+                at += count;
                 if let Some(entry) = entry {
                     if let Some(inclusion) = take_entry(alloc, reading, context, part, &entry)? {
-                        return Ok((at, Stop::Include(inclusion)));
+                        return Ok(Next::Include(inclusion, entries, at));
                     }
                 }
             }
-            Err(EntryError::Memory) => return Err(AllocError),
-            Err(EntryError::Fault(fault)) => {
-                tell_cut(reading, part, fault)?;
-                return Ok((at, Stop::Cut(fault.place.line)));
-            }
+            Err(error) => return cut(reading, part, text, error),
         }
     }
+    let next = last_part(alloc, reading, context, part, entries, text)?;
+    Ok(next)
+}
+
+/// Reads the last entry of a text.
+fn last_part(
+    alloc: Global,
+    reading: &mut Reading,
+    context: &mut Context,
+    part: Part,
+    entries: EntryReader,
+    text: &[u8],
+) -> Result<Next, AllocError>
+    ensures before { OnOk result (IsFaultless reading.new → IsFaultless reading.old) }
+    ensures within { IfOk result (λ next. IsWithin text.now next) }
+    ensures cut { IfOk result (λ next. IsTold reading.new next) }
+    ensures read { IfOk result (λ next. part.lines ≡ 0 → IsFaultless reading.new →
+        (inner : List ℕ → Gathered → Option Gathered) (beside : List ℕ → List ℕ) →
+        entries_read inner beside part.before (events_from [] entries)
+        (gathered context.old reading.old.records.items reading.old.sources.lines)
+        ≡ read_behind inner beside part.before text.now next
+        (gathered context.new reading.new.records.items reading.new.sources.lines)) }
+{
     match entries.finish(alloc) {
-        Ok(None) => Ok((at, Stop::End)),
+        Ok(None) => Ok(Next::End),
         Ok(Some(entry)) => match take_entry(alloc, reading, context, part, &entry)? {
-            Some(inclusion) => Ok((at, Stop::Include(inclusion))),
-            None => Ok((at, Stop::End)),
+            Some(inclusion) => {
+                let behind = EntryReader::new(alloc);
+                Ok(Next::Include(inclusion, behind, text.len()))
+            }
+            None => Ok(Next::End),
         },
-        Err(EntryError::Memory) => Err(AllocError),
-        Err(EntryError::Fault(fault)) => {
+        Err(error) => cut(reading, part, text, error),
+    }
+}
+
+/// Tells why a text can't be cut into entries, and where it may go on.
+fn cut(
+    reading: &mut Reading,
+    part: Part,
+    text: &[u8],
+    error: EntryError,
+) -> Result<Next, AllocError>
+    ensures within { IfOk result (λ next. IsWithin text.now next) }
+    ensures cut { IfOk result (λ next. IsTold reading.new next) }
+    ensures told { OnOk result (IsFaultless reading.new → ⊥) }
+{
+    match error {
+        EntryError::Memory => Err(AllocError),
+        EntryError::Fault(fault) => {
+            let line = fault.place.line;
             tell_cut(reading, part, fault)?;
-            Ok((at, Stop::Cut(fault.place.line)))
+            Ok(Next::Cut(octets_before_start(text, line)))
         }
     }
 }
 
 /// Tells why a text can't be cut into entries.
-fn tell_cut(reading: &mut Reading, part: Part, fault: EntryFault) -> Result<(), AllocError> {
+fn tell_cut(reading: &mut Reading, part: Part, fault: EntryFault) -> Result<(), AllocError>
+    ensures { OnOk result (IsFaultless reading.new → ⊥) }
+{
     let told = part.fault(ZoneFault {
         place: fault.place,
         reason: Reason::Entry(fault.reason),

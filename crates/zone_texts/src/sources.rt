@@ -1,4 +1,5 @@
 //! Where the lines that were read stand: in which file, and by which entries that is included.
+ghost use Rattle.std.specs.Prelude.{◌≡◌, ◌+◌, min, OnOk};
 
 use std::alloc::{AllocError, Global};
 use std::fmt;
@@ -52,7 +53,10 @@ impl Sources {
         name: String,
         lines: u64,
         included_at: Option<FilePlace>,
-    ) -> Result<usize, AllocError> {
+    ) -> Result<usize, AllocError>
+        ensures { OnOk result
+            (self.new.lines ≡ min (self.old.lines + lines) 18446744073709551615) }
+    {
         let number = self.files.len();
         self.files.push(SourceFile {
             name,
@@ -61,14 +65,6 @@ impl Sources {
         })?;
         self.lines = self.lines.saturating_add(lines);
         Ok(number)
-    }
-
-    /// How many lines the files have that were opened before one.
-    pub(crate) fn lines_before(&self, file: usize) -> u64 {
-        match self.files.get(file) {
-            Some(file) => file.before,
-            None => 0,
-        }
     }
 
     /// The name of the file of a number; nothing where there is none.

@@ -1,12 +1,13 @@
 //! What is read of files so far.
-ghost use Rattle.std.specs.Prelude.{◌≡◌, OnOk};
-ghost use Rattle.zone_texts.specs.Readings.{with_fault};
+ghost use Rattle.std.specs.Prelude.{◌≡◌, IfOk, OnOk, IsTrue};
+ghost use Rattle.zone_texts.specs.Inclusions.{placed_behind};
+ghost use Rattle.zone_texts.specs.Readings.{IsFaultless, with_fault};
 
 use crate::fault::{FileFault, What};
 use crate::sources::{FilePlace, Sources};
 use std::alloc::AllocError;
-use zone_file::{PlacedRecord, ZoneFault};
-use zone_proto::{Name, ProtoError};
+use zone_file::{Context, PlacedRecord, ZoneFault};
+use zone_proto::Name;
 use zone_scanner::Place;
 
 /// What was read of a zone file and of those that it includes.
@@ -31,6 +32,7 @@ impl Reading {
             (self.new.faults.items
             ≡ with_fault self.old.most self.old.faults.items
             (record { at = at; what = what })) }
+        ensures told { OnOk result (IsFaultless self.new → ⊥) }
         ensures records { self.new.records ≡ self.old.records }
     {
         if self.faults.len() < self.most {
@@ -40,6 +42,13 @@ impl Reading {
         }
         Ok(())
     }
+
+    /// Whether no fault was found.
+    pub fn is_faultless(&self) -> bool
+        ensures { IsTrue result → IsFaultless self.now }
+    {
+        self.faults.is_empty() && self.more_faults == 0
+    }
 }
 
 /// Where a part of a text stands.
@@ -47,19 +56,37 @@ impl Reading {
 pub(crate) struct Part {
     /// The number of its file.
     pub(crate) file: usize,
+    /// How many lines the files have that were opened before.
+    pub(crate) before: u64,
     /// How many lines of the file stand before it.
     pub(crate) lines: u64,
 }
 
 impl Part {
     /// The place in the file of a place in the part.
-    pub(crate) fn place(self, place: Place) -> FilePlace {
+    pub(crate) fn place(self, place: Place) -> FilePlace
+        ensures { self.lines ≡ 0 → result.place ≡ place }
+    {
         FilePlace {
             file: self.file,
             place: Place {
                 line: place.line.saturating_add(self.lines),
                 column: place.column,
             },
+        }
+    }
+
+    /// The place whose line is numbered through all files.
+    pub(crate) fn counted(self, place: Place) -> Place
+        ensures { self.lines ≡ 0 → result ≡ placed_behind self.before place }
+    {
+        let place = self.place(place).place;
+        if self.before == 0 {
+            return place;
+        }
+        Place {
+            line: place.line.saturating_add(self.before),
+            column: place.column,
         }
     }
 
@@ -83,7 +110,9 @@ impl Part {
 }
 
 /// A copy of a name.
-pub(crate) fn copy_of(name: &Name) -> Result<Name, AllocError> {
+pub(crate) fn copy_of(name: &Name) -> Result<Name, AllocError>
+    ensures { IfOk result (λ copy. copy ≡ name.now) }
+{
     match name.clone() {
         Ok(copy) => Ok(copy),
         Err(_) => Err(AllocError),
@@ -91,9 +120,23 @@ pub(crate) fn copy_of(name: &Name) -> Result<Name, AllocError> {
 }
 
 /// A copy of a name, if there is one.
-pub(crate) fn copy_if_any(name: &Option<Name>) -> Result<Option<Name>, AllocError> {
+pub(crate) fn copy_if_any(name: &Option<Name>) -> Result<Option<Name>, AllocError>
+    ensures { IfOk result (λ copy. copy ≡ name.now) }
+{
     match name {
         Some(name) => Ok(Some(copy_of(name)?)),
         None => Ok(None),
     }
+}
+
+/// A copy of what an entry takes from those before it.
+pub(crate) fn copy_of_context(context: &Context) -> Result<Context, AllocError>
+    ensures { IfOk result (λ copy. copy ≡ context.now) }
+{
+    Ok(Context {
+        origin: copy_of(&context.origin)?,
+        owner: copy_if_any(&context.owner)?,
+        ttl: context.ttl,
+        last_ttl: context.last_ttl,
+    })
 }

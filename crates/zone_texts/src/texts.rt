@@ -1,59 +1,24 @@
 //! Texts that are asked for by the names of their files.
+ghost use Rattle.std.specs.Prelude.{◌≡◌, Option, Some, None, IfOk, string_bytes};
+ghost use Rattle.zone_texts.specs.Inclusions.{Files};
 
 use std::alloc::{AllocError, Global};
 use std::io::ErrorKind;
 
 /// Gives the texts of files. Who reads zone files with their inclusions asks it, and opens no file.
 pub trait Texts {
+    // What is known of the files, where it is: nothing of those of a file system.
+    ghost known: { Self → Option Files } = { λ _. None };
+
+    /// The name of the file that a word names which stands in another file. Of one file it is always the same, so that a file is known
+    /// that includes itself. Its only error is want of memory.
+    fn name(&self, alloc: Global, file: &str, word: &str) -> Result<String, AllocError>
+        ensures { (files : Files) → known self.now ≡ Some files →
+            IfOk result (λ name. string_bytes name ≡ files.beside file.now word.now) };
+
     /// The whole text of the file of a name, or why it can't be read.
-    fn text(&mut self, alloc: Global, name: &str) -> Result<Vec<u8>, ErrorKind>;
-}
-
-/// The most folders that the name of a file goes up.
-const MOST_UP: u32 = 100;
-
-/// The name of a file that another one names: one that doesn't begin with `/` is relative to the folder of that. What goes up from a
-/// folder by `..` is told without it, so that a file has one name.
-pub(crate) fn name_beside(alloc: Global, file: &str, named: &str) -> Result<String, AllocError> {
-    let mut name = String::new(alloc);
-    if !named.starts_with('/') {
-        let (folder, named) = without_ups(folder_of(file), named);
-        if let Some(folder) = folder {
-            name.push_str(folder)?;
-            name.push('/')?;
-        }
-        name.push_str(named)?;
-        return Ok(name);
-    }
-    name.push_str(named)?;
-    Ok(name)
-}
-
-/// The folder of a file, if its name has one.
-fn folder_of(file: &str) -> Option<&str> {
-    match file.rsplit_once('/') {
-        Some((folder, _)) => Some(folder),
-        None => None,
-    }
-}
-
-/// A folder and a name in it, without each `..` that begins the name where the folder has a name of its own to be left.
-fn without_ups<'n>(folder: Option<&'n str>, named: &'n str) -> (Option<&'n str>, &'n str) {
-    let mut folder = folder;
-    let mut named = named;
-    for _ in 0..MOST_UP {
-        let (Some(inner), Some(behind)) = (folder, named.strip_prefix("../")) else {
-            return (folder, named);
-        };
-        let own = match inner.rsplit_once('/') {
-            Some((_, own)) => own,
-            None => inner,
-        };
-        if own == ".." || own == "." || own.is_empty() {
-            return (folder, named);
-        }
-        folder = folder_of(inner);
-        named = behind;
-    }
-    (folder, named)
+    fn text(&mut self, alloc: Global, name: &str) -> Result<Vec<u8>, ErrorKind>
+        ensures text { (files : Files) → known self.old ≡ Some files →
+            IfOk result (λ text. text.items ≡ files.text name.now) }
+        ensures known { known self.new ≡ known self.old };
 }
