@@ -52,7 +52,6 @@ impl<T: Drop> From<AllocFailed<T>> for FilesError {
 /// # Errors
 ///
 /// `Input` if a read failed; `Memory` if there isn't enough.
-#[tactic(auto, using(crate::proofs::Whole::records_alone))]
 pub fn read_files<R: Read, T: Texts>(
     alloc: Global,
     origin: Name,

@@ -24,7 +24,7 @@ include-returns-clause-read g t c = λ faultless files known.
 
 pub read_text-parts-preserved : goal.read_text-parts-preserved
 read_text-parts-preserved g t c = elim c.match-branch-3.branch [
-  read_text-in-Cut w ↦
+  | read_text-in-Cut w ↦
       let told = rw w.in-Cut.is at c.in_ok-next_part.ensures.cut in
       let none = λ (f : IsFaultless c.match-branch-3.reading). told (subst (λ (r : Reading). IsFaultless r) w.reading-is f) in
       record {
