@@ -1,0 +1,29 @@
+-- Which steps can be written as entries, and what is written of them
+use Rattle.std.specs.Prelude.{◌==◌, ◌&&◌, not, Bool, true, List, [], ◌∷◌, length}
+use Rattle.zone_proto.specs.Names.{same_name}
+use Rattle.zone_proto.specs.Sets.{RRset, AreSignatures, IsSet}
+use Rattle.zone_proto.specs.Types.{RRSIG, SOA}
+use Rattle.shown_zones.specs.Shown.{spelled}
+use Rattle.shown_zones.specs.Steps.{Step}
+
+-- A set that can be read back behind another: it has records, they are no signatures and no SOA, and its owner or its type is another one.
+abbrev pub follows : RRset → RRset → Bool
+follows before s =
+    not (length s.records == 0) && (not (s.record_type == RRSIG) && (not (s.record_type == SOA)
+    && not (same_name (spelled s.owner s.records) (spelled before.owner before.records) && s.record_type == before.record_type)))
+
+abbrev pub all_follow : RRset → List RRset → Bool
+all_follow before [] = true
+all_follow before (s ∷ ss) = follows before s && all_follow s ss
+
+abbrev pub is_soa_set : RRset → Bool
+is_soa_set s = s.record_type == SOA && not (length s.records == 0)
+
+-- a step between two SOAs whose other sets can be read back one behind the other
+abbrev pub is_writable : Step → Bool
+is_writable s = is_soa_set s.old_soa && (is_soa_set s.new_soa && (all_follow s.old_soa s.deleted && all_follow s.new_soa s.added))
+
+-- what holds of each set: its records are those of one set, and its signatures are signatures
+pub record IsSound (s : RRset) : Type 0 where
+  pub set : IsSet s.owner s.record_type s.records
+  pub signed : AreSignatures s.signatures

@@ -1,0 +1,67 @@
+//! The records of a step, each by itself, so that a message may end behind any of them.
+ghost use Rattle.std.specs.Prelude.{◌≡◌, ◌++◌, map, IfOk, OnOk};
+ghost use Rattle.message_writing.specs.Responses.{all_records, with_ttl};
+ghost use Rattle.std.specs.List.{All, AllByRecursion, flat_map};
+ghost use Rattle.shown_zones.specs.Steps.{step_of};
+ghost use Rattle.zone_journal.specs.Grouping.{sent, sent_sets, sent_step};
+ghost use Rattle.zone_journal.specs.Writing.{IsSound};
+
+use message_writing::Group;
+use shown_zones::ZoneStep;
+use std::alloc::{AllocError, Global};
+use zone_proto::{Record, RecordSet};
+
+/// The records of a step, each by itself.
+pub(crate) fn groups_of(alloc: Global, step: &ZoneStep) -> Result<Vec<Group<'_>>, AllocError>
+    ensures records { IfOk result
+        (λ groups. all_records groups.items ≡ sent_step (step_of step.now)) }
+    ensures sound { OnOk result (AllByRecursion IsSound (sent_sets (step_of step.now))) }
+{
+    let mut groups = Vec::new(alloc);
+    push_set(&mut groups, &step.old_soa)?;
+    push_sets(&mut groups, step.deleted.as_slice())?;
+    push_set(&mut groups, &step.new_soa)?;
+    push_sets(&mut groups, step.added.as_slice())?;
+    Ok(groups)
+}
+
+/// Appends the records of sets.
+fn push_sets<'s>(groups: &mut Vec<Group<'s>>, sets: &'s [RecordSet]) -> Result<(), AllocError>
+    ensures records { OnOk result
+        (all_records groups.new.items ≡ all_records groups.old.items ++ flat_map sent sets.now) }
+    ensures sound { OnOk result (All IsSound sets.now) }
+{
+    for set in sets {
+        push_set(groups, set)?;
+    }
+    Ok(())
+}
+
+/// Appends the records of a set, and then its signatures.
+fn push_set<'s>(groups: &mut Vec<Group<'s>>, set: &'s RecordSet) -> Result<(), AllocError>
+    ensures records { OnOk result
+        (all_records groups.new.items ≡ all_records groups.old.items ++ sent set.now) }
+    ensures sound { OnOk result (IsSound set.now) }
+{
+    push_records(groups, set.as_slice(), set.ttl())?;
+    push_records(groups, set.rrsigs(), set.ttl())
+}
+
+/// Appends records with a TTL.
+fn push_records<'s>(
+    groups: &mut Vec<Group<'s>>,
+    records: &'s [Record],
+    ttl: u32,
+) -> Result<(), AllocError>
+    ensures { OnOk result (all_records groups.new.items
+        ≡ all_records groups.old.items ++ map (with_ttl ttl) records.now) }
+{
+    for record in records {
+        groups.push(Group {
+            records: std::slice::from_ref(record),
+            signatures: &[],
+            ttl,
+        })?;
+    }
+    Ok(())
+}

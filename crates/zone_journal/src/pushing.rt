@@ -1,0 +1,36 @@
+//! Steps put behind a journal.
+ghost use Rattle.std.specs.Prelude.{◌≡◌, OnErr, OnOk};
+ghost use Rattle.shown_zones.specs.Steps.{step_of};
+ghost use Rattle.zone_journal.specs.Journals.{IsPut};
+
+use crate::entry_writer::write_entry;
+use journal_frames::push_frame;
+use message_series::SeriesFault;
+use shown_zones::ZoneStep;
+use std::alloc::Global;
+use zone_proto::Name;
+
+/// The longest entry of which a frame can tell the length.
+const LONGEST: usize = 0xFFFF_FFFF;
+
+/// Puts the entry of a step of the zone of this origin behind a journal, in a frame. What is new of the journal has to be in its file, and
+/// synced, before the zone after the step is served: else a crash brings a version back that was left.
+///
+/// # Errors
+///
+/// Those of [`write_entry`](crate::write_entry); `Unwritable` too where the entry has 2^32 octets or more. The journal stays as it was.
+pub fn push_step(
+    alloc: Global,
+    origin: &Name,
+    step: &ZoneStep,
+    journal: &mut Vec<u8>,
+) -> Result<(), SeriesFault>
+    ensures ok { OnOk result (IsPut journal.old.items journal.new.items (step_of step.now)) }
+    ensures same { OnErr result (journal.new.items ≡ journal.old.items) }
+{
+    let entry = write_entry(alloc, origin, step)?;
+    if entry.len() > LONGEST {
+        return Err(SeriesFault::Unwritable);
+    }
+    Ok(push_frame(journal, entry.as_slice())?)
+}
