@@ -1,0 +1,4 @@
+pub mod Accesses
+pub mod Holding
+pub mod Answering
+pub mod Laws
