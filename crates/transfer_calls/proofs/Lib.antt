@@ -1,0 +1,3 @@
+pub mod AccessHandles
+pub mod TransferHandles
+pub mod CallFacts
