@@ -21,7 +21,7 @@
  *
  *  - Every call returns, whatever the octets are, with a code that says how it ended. No call prints, opens or reads a file, waits, starts
  *    a thread, keeps a pointer of the caller's, reads a clock or ends the process.
- *  - All memory is the library's own, except for the buffers that the caller passes; nk_zones_free frees it.
+ *  - All memory is the library's own, except for the buffers that the caller passes; the calls with _free free it.
  *  - A call that returns anything but NK_DONE hasn't changed any zone. What it leaves in the buffer is described at each call.
  *  - Each call that returns a code may return NK_NO_MEMORY. Nothing is lost then, and the same call may be repeated.
  *  - Zones that were freed, or never made, give NK_CLOSED, and do no harm. They may be freed again.
@@ -74,7 +74,7 @@ enum {
     NK_IGNORED = 1,       /* the message gets no answer: fewer than 12 octets, or itself a response (RFC 1035 section 4.1.1) */
     NK_CLOSED = 2,        /* there are no zones: none were made, or they were freed */
     NK_BAD_NAME = 3,      /* the origin isn't the text of a name */
-    NK_BAD_TEXT = 4,      /* the text isn't that of a zone file, or its records make no zone */
+    NK_BAD_TEXT = 4,      /* the text isn't that of a zone file, or its records make no zone; or it isn't that of a file of keys */
     NK_NO_MEMORY = 5,     /* there is not enough memory */
     NK_NO_ROOM = 6,       /* the response is longer than the buffer for it */
     NK_NO_ZONE = 7,       /* there is no zone with this origin */
@@ -87,11 +87,16 @@ enum {
     NK_BAD_DENIAL = 24,   /* the denial, the iterations or the salt are none that a zone has (RFC 5155 section 3.2) */
     NK_BAD_ZONE = 25,     /* what the zone has can't be signed: a CNAME at its origin, or records below a DNAME */
     NK_LONG_NAMES = 26,   /* the origin is too long for names that are hashed */
-    NK_NO_MORE = 27,      /* everything that is to be signed was handed out */
+    NK_NO_MORE = 27,      /* everything that is to be signed was handed out, or all messages of a transfer */
     NK_ZONE_CHANGED = 28, /* the zone has another serial than the one that was planned */
     NK_TOO_FEW = 29,      /* there are fewer signatures than the plan wants */
     NK_TOO_MANY = 30,     /* there are more */
-    NK_BAD_SIGNATURE = 31 /* a signature isn't as long as those of its key */
+    NK_BAD_SIGNATURE = 31, /* a signature isn't as long as those of its key */
+    NK_NO_KEYS = 32,      /* there are no keys: none were read, or they were freed */
+    NK_NO_KEY = 33,       /* there is no key of this name */
+    NK_UNKEYED = 34,      /* the message has no TSIG and asks for no transfer: nk_zones_answer or nk_zones_answer_client answers it */
+    NK_TRANSFER = 35,     /* the messages of a zone follow */
+    NK_NO_TRANSFER = 36   /* there is no transfer: none was begun, or it came to its end, or was freed */
 };
 
 /* How a query came; and how many octets a response has at most over each. */
@@ -105,6 +110,18 @@ typedef struct nk_zones {
 
 /* What initializes one, to no zones; as a value, (nk_zones)NK_ZONES_NONE. */
 #define NK_ZONES_NONE {0}
+
+/* Keys, and who may have zones; a zone that is being sent; or none. The rules for an nk_zones hold for them too. */
+typedef struct nk_access {
+    void *kept;
+} nk_access;
+
+typedef struct nk_transfer {
+    void *kept;
+} nk_transfer;
+
+#define NK_ACCESS_NONE {0}
+#define NK_TRANSFER_NONE {0}
 
 /* A plan of a zone that is being signed, or none. The rules for an nk_zones hold for it too. */
 typedef struct nk_plan {
@@ -178,7 +195,7 @@ uint32_t nk_zones_serial(nk_zones *zones, const uint8_t *origin, size_t origin_l
 /* Answers a message (RFC 1035 section 4) from the zones. The response is at the beginning of the buffer, and `written` has its length in
  * octets; the rest of the buffer is as it was. The zone with the longest origin at or above the name in the query answers; for DS the longest
  * one above it, if there is one (RFC 4035 section 3.1.4.1). A name that is in none of the zones is REFUSED. A query for a transfer (AXFR,
- * IXFR) gets NOTIMP, since that takes more than one message (RFC 5936 section 2.2).
+ * IXFR) gets NOTIMP, since that takes more than one message (RFC 5936 section 2.2): nk_transfer_begin answers it. A TSIG is passed over.
  *
  *   now        the time, in seconds since 1970-01-01 00:00 UTC. Nothing depends on it as long as no zone is signed here.
  *   limit      how many octets a UDP response may have at most, such as 1232. If the client accepts fewer according to its OPT record, or the
@@ -253,6 +270,46 @@ enum {
  * NK_DONE, NK_IGNORED, NK_NO_ROOM, NK_NO_MEMORY, NK_BAD_TRANSPORT or NK_CLOSED. */
 uint32_t nk_zones_answer_client(nk_zones *zones, const nk_settings *settings, const nk_message *message, uint8_t *buffer,
                                 size_t buffer_length, size_t *written, nk_summary *summary);
+
+/* Reads a file of keys that are shared with other servers (TSIG, RFC 8945), as BIND's tsig-keygen and Knot DNS's keymgr -t print them, or NSD's
+ * key: blocks. They replace what is there, which is freed, its secrets wiped; and nobody may have a zone until nk_zones_allow says so. Of keys
+ * with one name and algorithm the first counts. The buffer gets the first fault of a file that is refused, such as "3:17: this isn't base64"
+ * (line and column, both from 1), followed by a line feed, as much of it as fits; `written` is 0 with any code but NK_BAD_TEXT.
+ * NK_DONE, NK_BAD_TEXT or NK_NO_MEMORY; after any code but NK_DONE what was there stays. */
+uint32_t nk_zones_keys(nk_access *access, const uint8_t *text, size_t text_length, uint8_t *buffer, size_t buffer_length, size_t *written);
+
+/* Lets those have the zone with this origin (AXFR, IXFR) whose requests are signed with the key of this name; a name without octets: anybody.
+ * The zone needn't be there yet. What was allowed stays allowed until keys are read again.
+ * NK_DONE, NK_NO_KEY, NK_BAD_NAME (of either), NK_NO_MEMORY or NK_NO_KEYS. */
+uint32_t nk_zones_allow(nk_access *access, const uint8_t *origin, size_t origin_length, const uint8_t *key, size_t key_length);
+
+/* Frees the keys, and wipes their secrets. Transfers that began go on. */
+void nk_access_free(nk_access *access);
+
+/* Answers a message that has a TSIG, or asks for a transfer (IXFR; AXFR over TCP). Any other gets NK_UNKEYED: call this first, and then
+ * nk_zones_answer_client with the same nk_message. The address isn't looked at.
+ *
+ *  - A TSIG that is malformed gets FORMERR; one that is refused NOTAUTH with BADKEY, BADSIG, BADTIME or BADTRUNC (RFC 8945 section 5.3.2).
+ *  - A message that is rightly signed is answered as nk_zones_answer does, and the response is signed.
+ *  - A transfer: NOTAUTH if there is no such zone, REFUSED if it doesn't go to the one who asks; the SOA alone if the client is up to date, or
+ *    asks over UDP (RFC 1995 section 2). Otherwise NK_TRANSFER: nk_transfer_next hands out the zone whole, as it was at this moment, whatever
+ *    is loaded or dropped meanwhile. The transfer replaces what is there, which is freed.
+ *
+ * After NK_DONE the response is in the buffer, and `written` has its length, as for nk_zones_answer, and so after NK_NO_ROOM; with any other code
+ * `written` is 0. With any code but NK_TRANSFER the transfer is as it was.
+ * NK_DONE, NK_TRANSFER, NK_UNKEYED, NK_IGNORED, NK_NO_ROOM, NK_NO_MEMORY, NK_BAD_TRANSPORT, NK_NO_KEYS or NK_CLOSED. */
+uint32_t nk_transfer_begin(nk_transfer *transfer, nk_zones *zones, nk_access *access, const nk_message *message, uint8_t *buffer,
+                           size_t buffer_length, size_t *written);
+
+/* Hands out the next message of the transfer, signed if the request was: it is in the buffer, and `written` has its length. If a record can't
+ * be sent, a message with SERVFAIL is the last one. `now` is the time, in seconds since 1970-01-01 00:00 UTC. A buffer of 65535 octets is
+ * enough. After NK_NO_MORE the transfer is freed, and so after NK_NO_ROOM (`written` says how many octets are needed): no message may be left
+ * out. With any other code but NK_DONE `written` is 0, and the transfer as it was.
+ * NK_DONE, NK_NO_MORE, NK_NO_ROOM, NK_NO_MEMORY or NK_NO_TRANSFER. */
+uint32_t nk_transfer_next(nk_transfer *transfer, uint64_t now, uint8_t *buffer, size_t buffer_length, size_t *written);
+
+/* Frees the transfer, if there is one. Afterwards there is none. */
+void nk_transfer_free(nk_transfer *transfer);
 
 /* Plans the zone with this origin, to be signed by keys that the library never sees: what the zone will have but for the signatures. It gets
  * the DNSKEY records of these keys, NSEC or NSEC3 records and the next serial (RFC 4035 section 2). Signatures, denials and DNSKEY records

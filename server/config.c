@@ -101,10 +101,9 @@ static int add_address(const struct place *place, struct config *config, const c
     return 0;
 }
 
-static int add_zone(const struct place *place, struct config *config, const char *origin, const char *path) {
-    struct zone_line *zone = one_more(&config->zones, &config->zone_count, sizeof *zone);
-    if (!zone || !(zone->origin = strdup(origin)) || !(zone->path = strdup(path))) return fault(place, "out of memory");
-    return 0;
+static int add_pair(const struct place *place, struct pair **pairs, size_t *count, const char *origin, const char *of) {
+    struct pair *pair = one_more(pairs, count, sizeof *pair);
+    return pair && (pair->origin = strdup(origin)) && (pair->of = strdup(of)) ? 0 : fault(place, "out of memory");
 }
 
 static int add_folder(const struct place *place, struct config *config, const char *path) {
@@ -126,11 +125,12 @@ static int add_secret(const struct place *place, struct config *config, const ch
 static const struct directive {
     const char *name;
     int least, most;          /* values */
-    enum { LISTEN, ZONE, ZONES, TEXT, NUMBER, SWITCH, QUERY_LOG, PREFIXES, SECRETS } way;
+    enum { LISTEN, ZONE, TRANSFER, ZONES, TEXT, NUMBER, SWITCH, QUERY_LOG, PREFIXES, SECRETS } way;
     size_t to;
     unsigned from, until;     /* of a number */
 } directives[] = {
     {"listen", 1, 2, LISTEN, 0, 0, 0}, {"zone", 2, 2, ZONE, 0, 0, 0}, {"zones", 1, 1, ZONES, 0, 0, 0},
+    {"keys", 1, 1, TEXT, AT(keys), 0, 0}, {"transfer", 1, 2, TRANSFER, 0, 0, 0},
     {"user", 1, 1, TEXT, AT(user), 0, 0}, {"chroot", 1, 1, TEXT, AT(chroot), 0, 0}, {"control", 1, 1, TEXT, AT(control), 0, 0},
     {"log", 1, 1, TEXT, AT(log), 0, 0}, {"nsid", 1, 1, TEXT, AT(nsid), 0, 0}, {"query-log", 2, 2, QUERY_LOG, 0, 0, 0},
     {"watch", 1, 1, SWITCH, AT(watch), 0, 0}, {"ready-answers", 1, 1, SWITCH, AT(ready_answers), 0, 0},
@@ -152,7 +152,8 @@ static int take(const struct place *place, struct config *config, char **words, 
     void *to = (char *)config + it->to;
     switch (it->way) {
     case LISTEN: return add_address(place, config, value, second);
-    case ZONE: return add_zone(place, config, value, second);
+    case ZONE: return add_pair(place, &config->zones, &config->zone_count, value, second);
+    case TRANSFER: return add_pair(place, &config->transfers, &config->transfer_count, value, second ? second : "");
     case ZONES: return add_folder(place, config, value);
     case TEXT: return set_text(place, to, value);
     case NUMBER: return set_number(place, to, value, it->from, it->until);
@@ -162,6 +163,43 @@ static int take(const struct place *place, struct config *config, char **words, 
     case SECRETS: config->settings.secrets_length = 0; return add_secret(place, config, value) || (second && add_secret(place, config, second)) ? -1 : 0;
     }
     return -1;
+}
+
+uint8_t *octets_of(const char *path, size_t *length) {
+    FILE *file = fopen(path, "rb");
+    if (!file) return NULL;
+    size_t room = 1 << 16, count;
+    uint8_t *octets = malloc(room);
+    *length = 0;
+    while (octets && (count = fread(octets + *length, 1, room - *length, file)) > 0)
+        if ((*length += count) == room) {
+            uint8_t *more = realloc(octets, room *= 2);
+            if (!more) free(octets);
+            octets = more;
+        }
+    if (octets && ferror(file)) {
+        int kept = errno;
+        free(octets);
+        octets = NULL;
+        errno = kept;
+    }
+    fclose(file);
+    return octets;
+}
+
+int config_access(const struct config *config, nk_access *access) {
+    char told[256];
+    size_t written = 0;
+    const uint8_t *text = config->keys_text ? config->keys_text : (const uint8_t *)"";
+    if (!config->keys_text && !config->transfer_count) return 0;
+    uint32_t code = nk_zones_keys(access, text, config->keys_length, (uint8_t *)told, sizeof told, &written);
+    if (code != NK_DONE) fprintf(stderr, "%s:%.*s", config->keys ? config->keys : "", (int)written, code == NK_BAD_TEXT ? told : "out of memory\n");
+    for (size_t i = 0; i < config->transfer_count && code == NK_DONE; i++) {
+        const struct pair *it = &config->transfers[i];
+        code = nk_zones_allow(access, (uint8_t *)it->origin, strlen(it->origin), (uint8_t *)it->of, strlen(it->of));
+        if (code != NK_DONE) fprintf(stderr, "transfer %s %s: %s\n", it->origin, it->of, code == NK_NO_KEY ? "there is no such key" : code == NK_BAD_NAME ? "one of them isn't a domain name" : "out of memory");
+    }
+    return code == NK_DONE ? 0 : -1;
 }
 
 int config_read(struct config *config, const char *path) {
@@ -188,6 +226,10 @@ int config_read(struct config *config, const char *path) {
     fclose(file);
     place.line = place.line ? place.line : 1;
     if (!is_bad && !config->zone_count && !config->folder_count) is_bad = fault(&place, "there is neither a zone nor a folder of zones");
+    nk_access access = NK_ACCESS_NONE;
+    if (!is_bad && config->keys && !(config->keys_text = octets_of(config->keys, &config->keys_length))) is_bad = fault(&place, "%s: %s", config->keys, strerror(errno));
+    if (!is_bad) is_bad = config_access(config, &access);   /* so that a fault is told at the start */
+    nk_access_free(&access);
     settings->secrets = config->secrets;
     if (!config->has_cookies) settings->secrets_length = 0;
     else if (!settings->secrets_length) settings->secrets_length = getrandom(config->secrets, SECRET, 0) == SECRET ? SECRET : 0;   /* one for this run */
@@ -197,15 +239,17 @@ int config_read(struct config *config, const char *path) {
 }
 
 void config_free(struct config *config) {
-    for (size_t i = 0; i < config->zone_count; i++) {
-        free(config->zones[i].origin);
-        free(config->zones[i].path);
+    for (int k = 0; k < 2; k++) {
+        struct pair *pairs = k ? config->transfers : config->zones;
+        for (size_t i = k ? config->transfer_count : config->zone_count; i--; free(pairs[i].of)) free(pairs[i].origin);
+        free(pairs);
     }
     for (size_t i = 0; i < config->folder_count; i++) free(config->folders[i]);
-    char *texts[] = {config->user, config->chroot, config->control, config->log, config->query_log, config->nsid};
+    char *texts[] = {config->user, config->chroot, config->control, config->log, config->query_log, config->nsid, config->keys};
     for (size_t i = 0; i < sizeof texts / sizeof *texts; i++) free(texts[i]);
+    if (config->keys_text) explicit_bzero(config->keys_text, config->keys_length);
+    free(config->keys_text);
     free(config->listen);
-    free(config->zones);
     free(config->folders);
     *config = (struct config){0};
 }

@@ -13,17 +13,18 @@ struct address {
     char text[64];                 /* as "192.0.2.1 port 53" */
 };
 
-/* A zone that is configured by its origin and file. */
-struct zone_line {
-    char *origin, *path;
+/* The two values of a line: the origin of a zone and its file, or the name of the key that it is sent under; "" sends it to anybody. */
+struct pair {
+    char *origin, *of;
 };
 
 struct config {
     struct address *listen;        /* the addresses at which queries are answered, by UDP and TCP */
-    struct zone_line *zones;
+    struct pair *zones, *transfers;
     char **folders;                /* each file NAME.zone there is the zone NAME */
-    size_t listen_count, zone_count, folder_count;
-    char *user, *chroot, *control, *log, *query_log, *nsid;   /* NULL where there is none */
+    size_t listen_count, zone_count, transfer_count, folder_count, keys_length;
+    char *user, *chroot, *control, *log, *query_log, *nsid, *keys;   /* NULL where there is none */
+    uint8_t *keys_text;            /* the octets of the file of keys, NULL without one */
     unsigned workers;              /* threads that answer; 0: one for each processor */
     unsigned udp_size;             /* octets of a response by UDP, at most */
     unsigned tcp_connections, tcp_client_connections, tcp_idle;   /* in all, of one client, seconds */
@@ -41,3 +42,9 @@ struct config {
 int config_read(struct config *config, const char *path);
 
 void config_free(struct config *config);
+
+/* Makes the keys and who may have zones, of a configuration that has either. Returns 0, or -1 once it is printed on standard error why not. */
+int config_access(const struct config *config, nk_access *access);
+
+/* The octets of a file, or NULL with errno. */
+uint8_t *octets_of(const char *path, size_t *length);

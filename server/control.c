@@ -17,10 +17,7 @@ enum { COMMAND = 8192, REPLY = 1 << 22, PATIENCE = 2000 };   /* PATIENCE: millis
 
 int control_listen(const char *path) {
     struct sockaddr_un address = {.sun_family = AF_UNIX};
-    if (strlen(path) >= sizeof address.sun_path) {
-        log_line("%s: the path of a socket has at most %zu octets", path, sizeof address.sun_path - 1);
-        return -1;
-    }
+    if (strlen(path) >= sizeof address.sun_path) return log_line("%s: the path of a socket has at most %zu octets", path, sizeof address.sun_path - 1);
     strcpy(address.sun_path, path);
     int fd = socket(AF_UNIX, SOCK_STREAM | SOCK_CLOEXEC | SOCK_NONBLOCK, 0);
     unlink(path);
@@ -76,10 +73,8 @@ static size_t reply_to(char *line, char *reply, struct worker *workers, size_t w
         size_t faults = zones_renew(1);
         return faults ? (size_t)sprintf(reply, "error\n%zu zones have a file that is bad: ningkraetctl zones has them\n", faults) : length;
     }
-    if (!strcmp(name, "stop") && !first) {
-        *is_over = 1;
-        return length;
-    }
+    *is_over = !strcmp(name, "stop") && !first;
+    if (*is_over) return length;
     if (!strcmp(name, "add") && second) {
         why = zones_add(first, second);
         if (!why && zones_renew(0)) why = "its file is bad, or another's: ningkraetctl zones has the faults";

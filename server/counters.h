@@ -21,6 +21,7 @@ extern const char *const kind_names[KINDS], *const cookie_names[COOKIES];
     X(limited, "responses withheld by the rate limit")                                                                                       \
     X(slipped, "responses cut to a header and question by the rate limit")                                                                   \
     X(no_memory, "queries dropped for want of memory")                                                                                       \
+    X(transfers, "transfers that began")                                                                                                     \
     X(unsent, "responses that the system did not take")                                                                                      \
     X(tcp_accepted, "TCP connections accepted")                                                                                              \
     X(tcp_refused, "TCP connections closed at once: the client has too many")                                                                \

@@ -11,6 +11,8 @@
 #include <sys/random.h>
 #include <time.h>
 
+#include "log.h"
+
 enum { TALLIES = 1 << 16, BUCKETS = 1 << 20 };
 
 struct tally {
@@ -69,7 +71,7 @@ int limits_begin(const struct config *given) {
     config = given;
     tallies = calloc(TALLIES, sizeof *tallies);
     buckets = config->rate_limit ? calloc(BUCKETS, sizeof *buckets) : NULL;
-    return tallies && (buckets || !config->rate_limit) && getrandom(key, sizeof key, 0) == sizeof key ? 0 : -1;
+    return tallies && (buckets || !config->rate_limit) && getrandom(key, sizeof key, 0) == sizeof key ? 0 : log_line("out of memory");
 }
 
 /* The question's name in lower case, of which a name error counts without its first label: names that are made up share what is above them. */

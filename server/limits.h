@@ -5,7 +5,7 @@
 
 #include "config.h"
 
-/* Makes the tables. Returns 0, or -1 where there is no memory. */
+/* Makes the tables. Returns 0, or -1 once it is logged that there is no memory. */
 int limits_begin(const struct config *config);
 
 /* What becomes of a response by UDP. */

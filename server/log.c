@@ -20,10 +20,7 @@ static atomic_uint queries;
 /* Opens a file to append to, and lets its descriptor be `*fd`, so that who writes there meanwhile writes to the one or the other. */
 static int reopen(int *fd, const char *path, int is_standard) {
     int opened = open(path, O_WRONLY | O_APPEND | O_CREAT | O_CLOEXEC, 0640);
-    if (opened < 0) {
-        log_line("%s: %s", path, strerror(errno));
-        return -1;
-    }
+    if (opened < 0) return log_line("%s: %s", path, strerror(errno));
     if (*fd < 0 || is_standard) *fd = opened;
     else dup3(opened, *fd, O_CLOEXEC), close(opened);
     return 0;
@@ -35,7 +32,7 @@ int log_open(const char *path, const char *query_path, unsigned every) {
     return (query_path && reopen(&queries_to, query_path, 0)) || is_bad ? -1 : 0;
 }
 
-void log_line(const char *format, ...) {
+int log_line(const char *format, ...) {
     char line[2048];
     size_t length = 0;
     if (to != STDERR_FILENO) {
@@ -50,7 +47,8 @@ void log_line(const char *format, ...) {
     va_end(values);
     length += more < 0 ? 0 : (size_t)more < sizeof line - length - 1 ? (size_t)more : sizeof line - length - 2;
     line[length++] = '\n';
-    if (write(to, line, length) < 0) return;   /* a log that can't be written stops nothing */
+    (void)!write(to, line, length);   /* a log that can't be written stops nothing */
+    return -1;
 }
 
 /* Writes the name of a question as text, each octet outside of letters, digits, - and _ as \\DDD, so that it is JSON too. */

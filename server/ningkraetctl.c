@@ -1,42 +1,33 @@
 /* ningkraetctl [-s SOCKET] COMMAND..: sends a command to a running ningkraetd, and prints its reply. */
+#include <errno.h>
 #include <stdio.h>
 #include <string.h>
 #include <sys/socket.h>
 #include <sys/un.h>
 #include <unistd.h>
 
+/* Tells why no command is carried out. */
+static int told(const char *what, const char *why) {
+    fprintf(stderr, "%s: %s\n", what, why);
+    return 2;
+}
+
 int main(int argc, char **argv) {
-    const char *path = "/run/ningkraetd/control";
-    int first = 1;
-    if (argc > 2 && !strcmp(argv[1], "-s")) {
-        path = argv[2];
-        first = 3;
-    }
-    if (argc <= first) {
-        fprintf(stderr, "usage: ningkraetctl [-s SOCKET] status | metrics | zones | reload | add ORIGIN FILE | drop ORIGIN | stop\n");
-        return 2;
-    }
+    int first = argc > 2 && !strcmp(argv[1], "-s") ? 3 : 1;
+    const char *path = first == 3 ? argv[2] : "/run/ningkraetd/control";
+    if (argc <= first) return told("usage", "ningkraetctl [-s SOCKET] status | metrics | zones | reload | add ORIGIN FILE | drop ORIGIN | stop");
     struct sockaddr_un address = {.sun_family = AF_UNIX};
     strncpy(address.sun_path, path, sizeof address.sun_path - 1);
     int fd = socket(AF_UNIX, SOCK_STREAM, 0);
-    if (fd < 0 || connect(fd, (struct sockaddr *)&address, sizeof address)) {
-        perror(path);
-        return 2;
-    }
+    if (fd < 0 || connect(fd, (struct sockaddr *)&address, sizeof address)) return told(path, strerror(errno));
     char line[8192];
     size_t length = 0;
     for (int i = first; i < argc; i++) {
         int more = snprintf(line + length, sizeof line - length, "%s%c", argv[i], i + 1 < argc ? ' ' : '\n');
-        if (more < 0 || (size_t)more >= sizeof line - length) {
-            fprintf(stderr, "ningkraetctl: the command is too long\n");
-            return 2;
-        }
+        if (more < 0 || (size_t)more >= sizeof line - length) return told("ningkraetctl", "the command is too long");
         length += more;
     }
-    if (write(fd, line, length) != (ssize_t)length) {
-        perror(path);
-        return 2;
-    }
+    if (write(fd, line, length) != (ssize_t)length) return told(path, strerror(errno));
     char reply[65536];
     size_t have = 0;
     int is_ok = -1;
@@ -52,6 +43,5 @@ int main(int argc, char **argv) {
         fwrite(reply, 1, have, is_ok ? stdout : stderr);
         have = 0;
     }
-    if (is_ok < 0) fprintf(stderr, "ningkraetctl: the server gave no reply\n");
-    return is_ok == 1 ? 0 : is_ok == 0 ? 1 : 2;
+    return is_ok < 0 ? told("ningkraetctl", "the server gave no reply") : !is_ok;
 }

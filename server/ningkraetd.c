@@ -38,18 +38,10 @@ static void watch(const char *folder) {
 /* Gives up what only opening sockets needs: the folders outside of the one to stay in, and the rights of root. */
 static int drop_privileges(void) {
     struct passwd *user = config.user ? getpwnam(config.user) : NULL;
-    if (config.user && !user) {
-        log_line("there is no user %s", config.user);
-        return -1;
-    }
-    if (config.chroot && (chroot(config.chroot) || chdir("/"))) {
-        log_line("%s: %s", config.chroot, strerror(errno));
-        return -1;
-    }
-    if (user && (setgroups(0, NULL) || setgid(user->pw_gid) || setuid(user->pw_uid))) {
-        log_line("the rights of %s can't be taken: %s", config.user, strerror(errno));
-        return -1;
-    }
+    if (config.user && !user) return log_line("there is no user %s", config.user);
+    if (config.chroot && (chroot(config.chroot) || chdir("/"))) return log_line("%s: %s", config.chroot, strerror(errno));
+    if (user && (setgroups(0, NULL) || setgid(user->pw_gid) || setuid(user->pw_uid)))
+        return log_line("the rights of %s can't be taken: %s", config.user, strerror(errno));
     if (!geteuid()) log_line("running as root: name a user in the configuration");
     prctl(PR_SET_NO_NEW_PRIVS, 1, 0, 0, 0);   /* no program that is run from here has more rights */
     return 0;
@@ -72,10 +64,7 @@ static int make_workers(void) {
     long processors = sysconf(_SC_NPROCESSORS_ONLN);
     worker_count = config.workers ? config.workers : processors > 0 ? (size_t)processors : 1;
     if (pairs < 0) return -1;
-    if (!pairs && !config.listen_count) {
-        log_line("no address to listen at: the configuration has no line 'listen', and no socket was handed over");
-        return -1;
-    }
+    if (!pairs && !config.listen_count) return log_line("no address to listen at: the configuration has no line 'listen', and no socket was handed over");
     raise_descriptors();
     workers = calloc(worker_count, sizeof *workers);
     int *sockets = calloc(2 * (config.listen_count + 1), sizeof *sockets);
@@ -133,11 +122,7 @@ static int serve(const sigset_t *handled) {
     int control = config.control ? control_listen(config.control) : -1;
     if (config.control && control < 0) return 2;
     if (config.control && config.user && getpwnam(config.user) && chown(config.control, getpwnam(config.user)->pw_uid, -1)) log_line("%s: %s", config.control, strerror(errno));
-    if (limits_begin(&config)) {
-        log_line("out of memory");
-        return 2;
-    }
-    if (drop_privileges()) return 2;
+    if (limits_begin(&config) || drop_privileges()) return 2;
     if (log_open(config.log, config.query_log, config.query_log_every) || zones_begin(&config)) return 2;
     if (config.watch && (watcher = inotify_init1(IN_NONBLOCK | IN_CLOEXEC)) < 0) log_line("files aren't watched: %s", strerror(errno));
     renew(1);

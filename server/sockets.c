@@ -20,13 +20,9 @@ static void prepare_datagrams(int fd, int family) {
     set(fd, SOL_SOCKET, SO_RCVBUF, 1 << 22);
     set(fd, SOL_SOCKET, SO_RCVBUFFORCE, 1 << 22);   /* beyond net.core.rmem_max, if it has CAP_NET_ADMIN */
     set(fd, SOL_SOCKET, SO_SNDBUF, 1 << 22);
-    if (family == AF_INET) {
-        set(fd, IPPROTO_IP, IP_PKTINFO, 1);
-        set(fd, IPPROTO_IP, IP_MTU_DISCOVER, IP_PMTUDISC_OMIT);
-    } else {
-        set(fd, IPPROTO_IPV6, IPV6_RECVPKTINFO, 1);
-        set(fd, IPPROTO_IPV6, IPV6_MTU_DISCOVER, IPV6_PMTUDISC_OMIT);
-    }
+    int is_v4 = family == AF_INET, level = is_v4 ? IPPROTO_IP : IPPROTO_IPV6;
+    set(fd, level, is_v4 ? IP_PKTINFO : IPV6_RECVPKTINFO, 1);
+    set(fd, level, is_v4 ? IP_MTU_DISCOVER : IPV6_MTU_DISCOVER, is_v4 ? IP_PMTUDISC_OMIT : IPV6_PMTUDISC_OMIT);
 }
 
 static int open_one(const struct address *address, int kind, int is_shared) {
@@ -60,19 +56,16 @@ int sockets_inherited(int *sockets, size_t most) {
         getsockopt(fd, SOL_SOCKET, SO_TYPE, &kind, &length);
         getsockopt(fd, SOL_SOCKET, SO_DOMAIN, &family, &length);
         if (family == AF_INET6) getsockopt(fd, IPPROTO_IPV6, IPV6_V6ONLY, &is_alone, &length);
-        if ((kind != SOCK_DGRAM && kind != SOCK_STREAM) || (family != AF_INET && family != AF_INET6) || !is_alone || (kind == SOCK_DGRAM ? datagrams : listeners) == most) {
+        if ((kind != SOCK_DGRAM && kind != SOCK_STREAM) || (family != AF_INET && family != AF_INET6) || !is_alone || (kind == SOCK_DGRAM ? datagrams : listeners) == most)
             /* (by one of IPv6 that takes IPv4, all clients of IPv4 would be one client) */
-            log_line("the service manager handed over a socket that is neither UDP nor TCP, of IPv6 and takes IPv4 too (BindIPv6Only), or too many");
-            return -1;
-        }
+            return log_line("the service manager handed over a socket that is neither UDP nor TCP, of IPv6 and takes IPv4 too (BindIPv6Only), or too many");
         fcntl(fd, F_SETFL, O_NONBLOCK);   /* several workers are woken for a client that one of them takes */
         fcntl(fd, F_SETFD, FD_CLOEXEC);
         if (kind == SOCK_DGRAM) prepare_datagrams(fd, family);
         sockets[kind == SOCK_DGRAM ? 2 * datagrams++ : 2 * listeners++ + 1] = fd;
     }
     if (datagrams == listeners) return datagrams;
-    log_line("the service manager handed over %zu sockets for UDP and %zu for TCP: there has to be one of each for every address", datagrams, listeners);
-    return -1;
+    return log_line("the service manager handed over %zu sockets for UDP and %zu for TCP: there has to be one of each for every address", datagrams, listeners);
 }
 
 void sockets_notify(const char *state) {

@@ -30,7 +30,9 @@ struct connection {
     struct sockaddr_storage client;
     uint64_t moved;           /* the microsecond in which a whole query came, or octets went out: no client holds it by octets alone */
     uint32_t events;          /* those that the kernel is asked for */
-    unsigned is_busy : 1, is_ended : 1;   /* a query waits in `in`; the client has closed its half, and is still answered (section 6.2.4) */
+    unsigned is_busy : 1, is_ended : 1;   /* an answer is due; the client has closed its half, and is still answered (section 6.2.4) */
+    unsigned is_sending : 1;              /* `transfer` has messages, which come before the next query's answer */
+    nk_transfer transfer;
     uint8_t *in, *unsent;     /* of `unsent` the client hasn't read `left` octets from `sent` on: until it has, no more of its queries are answered */
     size_t size, have, left, sent;
 };
@@ -56,6 +58,7 @@ static void close_connection(struct worker *worker, struct connection *c) {
     TAILQ_REMOVE(c->list, c, at);
     limits_leave(c->tally);
     close(c->source.fd);
+    nk_transfer_free(&c->transfer);
     free(c->in);
     free(c->unsent);
     free(c);
@@ -116,8 +119,10 @@ void tcp_accept(struct worker *worker, struct source *listener) {
     }
 }
 
-/* Whether a whole query waits in what was read. */
-static int has_frame(const struct connection *c) { return c->have >= 2 && c->have - 2 >= (size_t)(c->in[0] << 8 | c->in[1]); }
+/* Whether an answer is due: messages of a transfer, or that to a whole query in what was read from an octet on. */
+static int is_due(const struct connection *c, size_t at) {
+    return c->is_sending || (c->have - at >= 2 && c->have - at - 2 >= (size_t)(c->in[at] << 8 | c->in[at + 1]));
+}
 
 /* Answers whole queries that were read, until none is left, the client has TURN octets to read, or SLICE is over. Tells whether the
  * connection goes on. */
@@ -127,16 +132,21 @@ static int answer_frames(struct worker *worker, struct connection *c) {
     size_t at = 0, made = 0, written;
     nk_summary summary;
     time_t now = time(NULL);
-    for (uint64_t until = microseconds() + SLICE; made < TURN && c->have - at >= 2 && (!at || microseconds() < until);) {
-        size_t length = c->in[at] << 8 | c->in[at + 1];
-        if (c->have - at - 2 < length) break;
-        const uint8_t *query = c->in + at + 2;
-        uint32_t code = answer_message(worker, client, NK_TCP, now, query, length, out + made + 2, 65535, &written, &summary);
-        at += 2 + length;
-        if (code == NK_IGNORED) continue;
-        if (code != NK_DONE) return 0;
-        count_response(&worker->counters, written, &summary);
-        log_query(client, NK_TCP, query, length, written, &summary);
+    for (uint64_t until = microseconds() + SLICE; made < TURN && is_due(c, at) && (!(at | made) || microseconds() < until);) {
+        uint8_t *query = c->in + at + 2, *response = out + made + 2;
+        size_t length = c->is_sending ? 0 : c->in[at] << 8 | c->in[at + 1];
+        uint32_t code = c->is_sending ? nk_transfer_next(&c->transfer, now, response, 65535, &written)
+                                      : answer_message(worker, &c->transfer, client, NK_TCP, now, query, length, response, 65535, &written, &summary);
+        if (!c->is_sending) at += 2 + length;
+        if (code == NK_DONE && c->is_sending) count(&worker->counters.octets_out, written);
+        else if (code == NK_DONE) {
+            count_response(&worker->counters, written, &summary);
+            log_query(client, NK_TCP, query, length, written, &summary);
+        }
+        if (code == NK_TRANSFER) count(&worker->counters.transfers, 1);
+        if (code == NK_TRANSFER || code == NK_NO_MORE) c->is_sending = code == NK_TRANSFER;
+        else if (code != NK_DONE && code != NK_IGNORED) return 0;
+        if (code != NK_DONE) continue;
         out[made] = written >> 8;
         out[made + 1] = written;
         made += 2 + written;
@@ -178,15 +188,13 @@ static int send_more(struct connection *c) {
     if (count < 0) return errno == EAGAIN || errno == EINTR;
     c->moved = microseconds();
     c->sent += count;
-    if ((c->left -= count)) return 1;
-    free(c->unsent);
-    c->unsent = NULL;
+    if (!(c->left -= count)) free(c->unsent), c->unsent = NULL;
     return 1;
 }
 
 /* What a connection waits for is asked of the kernel; one that is answered to its end is closed. */
 static void go_on(struct worker *worker, struct connection *c, int goes_on) {
-    int waits = goes_on && !c->left && has_frame(c);
+    int waits = goes_on && !c->left && is_due(c, 0);
     if (!goes_on || (c->is_ended && !c->left && !waits)) {
         close_connection(worker, c);
         return;
@@ -200,7 +208,7 @@ void tcp_event(struct worker *worker, struct source *source, uint32_t events) {
     struct connection *c = (struct connection *)source;
     int goes_on = 1;
     if (c->left) goes_on = send_more(c);
-    else if (!has_frame(c)) goes_on = read_more(c);
+    else if (!is_due(c, 0)) goes_on = read_more(c);
     else if (events & (EPOLLERR | EPOLLHUP)) goes_on = 0;
     go_on(worker, c, goes_on);
 }

@@ -79,7 +79,8 @@ static size_t answer(struct worker *worker, struct udp *udp, int at, uint8_t *re
     const uint8_t *query = udp->octets[at];
     size_t length = read->msg_hdr.msg_flags & MSG_TRUNC ? 0 : read->msg_len, written;
     nk_summary summary;
-    if (answer_message(worker, client, NK_UDP, now, query, length, response, sizeof udp->responses[0], &written, &summary) != NK_DONE) return 0;
+    nk_transfer none = NK_TRANSFER_NONE;   /* none begins by UDP */
+    if (answer_message(worker, &none, client, NK_UDP, now, query, length, response, sizeof udp->responses[0], &written, &summary) != NK_DONE) return 0;
     enum verdict verdict = limits_take(client, &summary, query, length);
     if (verdict == WITHHOLD) {
         count(&worker->counters.limited, 1);

@@ -34,23 +34,20 @@ int worker_watch(struct worker *worker, struct source *source, uint32_t events, 
 }
 
 int worker_begin(struct worker *worker, const struct config *config, const int *sockets, size_t address_count) {
-    *worker = (struct worker){.config = config, .zones = NK_ZONES_NONE, .seen = -1ul, .address_count = address_count, .epoll = epoll_create1(EPOLL_CLOEXEC)};
+    *worker = (struct worker){.config = config, .zones = NK_ZONES_NONE, .access = NK_ACCESS_NONE, .seen = -1ul, .address_count = address_count, .epoll = epoll_create1(EPOLL_CLOEXEC)};
     TAILQ_INIT(&worker->silent);
     TAILQ_INIT(&worker->asking);
     TAILQ_INIT(&worker->busy);
     worker->spare = dup(worker->epoll);
     worker->udp = udp_new(sockets, address_count);
     worker->listeners = calloc(address_count, sizeof *worker->listeners);
-    if (nk_zones_new(&worker->zones) != NK_DONE || worker->epoll < 0 || !worker->udp || !worker->listeners) {
-        log_line("a worker can't be made: %s", worker->epoll < 0 ? strerror(errno) : "out of memory");
-        return -1;
-    }
+    if (nk_zones_new(&worker->zones) != NK_DONE || worker->epoll < 0 || !worker->udp || !worker->listeners)
+        return log_line("a worker can't be made: %s", worker->epoll < 0 ? strerror(errno) : "out of memory");
+    if (config_access(config, &worker->access)) return -1;
     for (size_t i = 0; i < address_count; i++) {
         worker->listeners[i] = (struct source){SOURCE_LISTENER, sockets[2 * i + 1]};
-        if (worker_watch(worker, udp_source(worker->udp, i), EPOLLIN | EPOLLEXCLUSIVE, 1) || worker_watch(worker, &worker->listeners[i], EPOLLIN | EPOLLEXCLUSIVE, 1)) {
-            log_line("a socket can't be watched: %s", strerror(errno));
-            return -1;
-        }
+        if (worker_watch(worker, udp_source(worker->udp, i), EPOLLIN | EPOLLEXCLUSIVE, 1) || worker_watch(worker, &worker->listeners[i], EPOLLIN | EPOLLEXCLUSIVE, 1))
+            return log_line("a socket can't be watched: %s", strerror(errno));
     }
     return 0;
 }
@@ -104,6 +101,7 @@ int worker_start(struct worker *worker) { return pthread_create(&worker->thread,
 
 void worker_free(struct worker *worker) {
     nk_zones_free(&worker->zones);
+    nk_access_free(&worker->access);
     udp_free(worker->udp);
     free(worker->listeners);
     if (worker->epoll >= 0) close(worker->epoll);

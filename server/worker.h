@@ -22,6 +22,7 @@ struct worker {
     pthread_t thread;
     const struct config *config;
     nk_zones zones;
+    nk_access access;                  /* keys, and who may have zones */
     unsigned long seen;                /* which zones these are */
     int epoll, spare;                  /* `spare`: a descriptor that is kept for a client that is turned away */
     struct udp *udp;                   /* one for each address */
@@ -48,8 +49,8 @@ void workers_stop(void);
 void worker_free(struct worker *worker);
 
 /* Answers a client's message into a buffer, and counts it. Returns a code of the library: after NK_DONE `written` is how long the response
- * is, and `summary` what it was. */
-uint32_t answer_message(struct worker *worker, const struct sockaddr *client, uint32_t transport, time_t now, const uint8_t *query,
+ * is, and `summary` what it was; after NK_TRANSFER the transfer has its messages. */
+uint32_t answer_message(struct worker *worker, nk_transfer *transfer, const struct sockaddr *client, uint32_t transport, time_t now, const uint8_t *query,
                         size_t query_length, uint8_t *response, size_t size, size_t *written, nk_summary *summary);
 
 /* A file descriptor whose events come with this source. Returns 0 or -1. */

@@ -85,29 +85,6 @@ static void set_fault(struct zone *zone, const char *text) {
     if (text) log_line("%s (%s): %s%s", zone->path, zone->origin, text, zone->is_served ? "; the zone stays as it was" : "");
 }
 
-/* The octets of a file, or NULL with errno. */
-static uint8_t *octets_of(const char *path, size_t *length) {
-    FILE *file = fopen(path, "rb");
-    if (!file) return NULL;
-    size_t room = 1 << 16, count;
-    uint8_t *octets = malloc(room);
-    *length = 0;
-    while (octets && (count = fread(octets + *length, 1, room - *length, file)) > 0)
-        if ((*length += count) == room) {
-            uint8_t *more = realloc(octets, room *= 2);
-            if (!more) free(octets);
-            octets = more;
-        }
-    if (octets && ferror(file)) {
-        int kept = errno;
-        free(octets);
-        octets = NULL;
-        errno = kept;
-    }
-    fclose(file);
-    return octets;
-}
-
 /* Logs the lines that a call of the library told, and cuts the last line feed off. */
 static void log_lines(const struct zone *zone, char *told, size_t length) {
     told[length] = 0;
@@ -145,13 +122,10 @@ static int is_changed(const struct stat *old, const struct stat *new) {
     return old->st_mtim.tv_sec != new->st_mtim.tv_sec || old->st_mtim.tv_nsec != new->st_mtim.tv_nsec || old->st_size != new->st_size || old->st_ino != new->st_ino;
 }
 
-/* Takes the files of a folder into the list: NAME.zone is that of the zone NAME. Tells whether it could be read. */
+/* Takes the files of a folder into the list: NAME.zone is that of the zone NAME. Returns 0, or -1 where it can't be read. */
 static int look_into(const char *folder) {
     DIR *opened = opendir(folder);
-    if (!opened) {
-        log_line("%s: %s", folder, strerror(errno));
-        return 0;
-    }
+    if (!opened) return log_line("%s: %s", folder, strerror(errno));
     for (struct dirent *entry; (entry = readdir(opened));) {
         size_t length = strlen(entry->d_name);
         if (entry->d_name[0] == '.' || length < 6 || strcmp(entry->d_name + length - 5, ".zone")) continue;
@@ -165,7 +139,7 @@ static int look_into(const char *folder) {
         free(origin);
     }
     closedir(opened);
-    return 1;
+    return 0;
 }
 
 size_t zones_renew(int all) {
@@ -176,7 +150,7 @@ size_t zones_renew(int all) {
     size_t changes = 0, faults = 0, kept = 0;
     int can_see = 1;
     for (size_t i = 0; i < zone_count; i++) zones[i]->is_there = !zones[i]->is_of_folder;
-    for (size_t i = 0; i < config->folder_count; i++) can_see &= look_into(config->folders[i]);
+    for (size_t i = 0; i < config->folder_count; i++) can_see &= !look_into(config->folders[i]);
     for (size_t i = 0; i < zone_count && code == NK_DONE; i++) {
         struct zone *zone = zones[i];
         struct stat now = {0};
@@ -218,15 +192,10 @@ size_t zones_renew(int all) {
 
 int zones_begin(const struct config *given) {
     config = given;
-    if (nk_interface() != NK_INTERFACE || nk_zones_new(&loaded) != NK_DONE) {
-        log_line("no memory, or a library of another interface than %d", NK_INTERFACE);
-        return -1;
-    }
+    if (nk_interface() != NK_INTERFACE || nk_zones_new(&loaded) != NK_DONE) return log_line("no memory, or a library of another interface than %d", NK_INTERFACE);
     for (size_t i = 0; i < config->zone_count; i++) {
-        const char *why = zones_add(config->zones[i].origin, config->zones[i].path);
-        if (!why) continue;
-        log_line("%s: %s", config->zones[i].origin, why);
-        return -1;
+        const char *why = zones_add(config->zones[i].origin, config->zones[i].of);
+        if (why) return log_line("%s: %s", config->zones[i].origin, why);
     }
     return 0;
 }

@@ -63,6 +63,8 @@ def flags(folder):
 WORDS = {
     "Global": "alloc",
     "&mut DatabaseHandle": "&mut {}",
+    "&mut AccessHandle": "&mut {}",
+    "&mut TransferHandle": "&mut {}",
     "&mut PlanHandle": "&mut {}",
     "&Signing": "&how",
     "&[u8]": "&text",
@@ -78,6 +80,7 @@ PROGRAM = """
 fn main(rt: HostRuntime) -> std::process::ExitCode {{
     let alloc = rt.alloc();
     let (mut zones, mut other, mut plan) = (DatabaseHandle::empty(alloc), DatabaseHandle::empty(alloc), PlanHandle::empty(alloc));
+    let (mut access, mut transfer) = (AccessHandle::empty(alloc), TransferHandle::empty(alloc));
     let how = Signing {{ inception: 0, expiration: 0, jitter: 0, key_ttl: 0, denial: 0, iterations: 0, asks_parent: 0 }};
     let (text, mut room, mut written, mut serial) = ([0u8; 8], [0u8; 8], 0usize, 0u32);
     let settings = ServerSettings {{ nsid: &text, secrets: &text, cookies_required: 0 }};

@@ -3,9 +3,9 @@
  *     cc library_test.c $(pkg-config --cflags --libs ningkraet) -Wl,--wrap=malloc,--wrap=realloc -o library_test
  *     ./library_test [DATAGRAMS]
  *
- * Each refusal is made, and clients come with cookies; then each allocation of each call fails in turn: the call says so and changes nothing, or does without, and it
- * succeeds when it is made again. Then so many datagrams, which are queries with octets turned, are answered. With NOT_WRAPPED, as beside
- * a sanitizer, which has a malloc of its own, no allocation fails. */
+ * Each refusal is made, clients come with cookies, and a zone is sent; then each allocation of each call fails in turn: the call says so and
+ * changes nothing, or does without, and it succeeds when it is made again. Then so many datagrams, which are queries with octets turned, are
+ * answered. With NOT_WRAPPED, as beside a sanitizer, which has a malloc of its own, no allocation fails. */
 #include <ningkraet.h>
 #include <stdio.h>
 #include <stdlib.h>
@@ -196,6 +196,76 @@ static int plan_refusals(void) {
     return 0;
 }
 
+/* A file of keys, and the TSIG of a request for the zone under this key, at 1000 seconds, with a fudge of 300 (RFC 8945). */
+static const char *const keys = "key \"key.example\" {\n\talgorithm hmac-sha256;\n\tsecret \"c2VjcmV0IG9mIGEga2V5IHRoYXQgaXMgc2hhcmVkLi4=\";\n};\n";
+static const uint8_t tsig[] = "\3" "key" "\7" "example" "\0\0\372\0\377\0\0\0\0\0\75" "\13" "hmac-sha256" "\0\0\0\0\0\3\350\1\54\0\40"
+    "\277\65\10\155\40\173\105\101\373\107\130\257\76\244\204\201\7\122\220\115\73\336\274\374\23\127\126\127\360\256\26\132" "\1\2\0\0\0\0";
+static nk_access access = NK_ACCESS_NONE;
+
+static uint32_t read_keys(const char *file, size_t *written) { return nk_zones_keys(&access, (const uint8_t *)file, strlen(file), room, sizeof room, written); }
+
+static uint32_t allow(const char *origin, const char *name) { return nk_zones_allow(&access, (const uint8_t *)origin, strlen(origin), (const uint8_t *)name, strlen(name)); }
+
+/* The answer to a request for the zone, which came at a moment: with so many of the octets of its TSIG, which is absent for 0. */
+static uint32_t ask_zone(nk_transfer *transfer, nk_zones *zones, size_t signature, uint64_t now, uint32_t transport, size_t space, size_t *written) {
+    uint8_t query[192];
+    size_t length = query_of(query, "", 252) - 11 - 1;
+    memmove(query + 12, query + 13, length - 12);
+    query[2] = 0, query[11] = signature > 0;
+    memcpy(query + length, tsig, signature);
+    nk_message message = {.octets = query, .octets_length = length + signature, .moment = now, .limit = 1232, .transport = transport};
+    return nk_transfer_begin(transfer, zones, &access, &message, room, space, written);
+}
+
+/* The same for zones that are sent. */
+static int transfers(void) {
+    nk_zones zones = NK_ZONES_NONE;
+    nk_transfer transfer = NK_TRANSFER_NONE;
+    size_t written = 9, whole = sizeof tsig - 1;
+    memset(room, 85, sizeof room);
+    IS(ask_zone(&transfer, &zones, 0, 1000, NK_TCP, sizeof room, &written) == NK_CLOSED && !written && nk_zones_new(&zones) == NK_DONE && load(&zones, 0, ORIGIN, text, &written) == NK_DONE);
+    memset(room, 85, sizeof room);
+    IS(ask_zone(&transfer, &zones, 0, 1000, NK_TCP, sizeof room, &written) == NK_NO_KEYS && ask_zone(&transfer, &zones, 0, 1000, 2, sizeof room, &written) == NK_BAD_TRANSPORT && !written && is_untouched());
+    IS(allow(ORIGIN, "") == NK_NO_KEYS && nk_transfer_next(&transfer, 1000, room, sizeof room, &written) == NK_NO_TRANSFER && !written && is_untouched());
+    IS(read_keys("\nkey a. { secret \"?\"; };\n", &written) == NK_BAD_TEXT && written > 6 && !memcmp(room, "2:", 2) && room[written - 1] == '\n' && allow(ORIGIN, "") == NK_NO_KEYS);
+    IS(read_keys(keys, &written) == NK_DONE && !written && allow("a..b", "") == NK_BAD_NAME && allow(ORIGIN, "a..b") == NK_BAD_NAME && allow(ORIGIN, "b.example") == NK_NO_KEY);
+    memset(room, 85, sizeof room);
+    IS(ask_zone(&transfer, &zones, 0, 1000, NK_UDP, sizeof room, &written) == NK_UNKEYED && !written && is_untouched());
+    IS(ask_zone(&transfer, &zones, 0, 1000, NK_TCP, sizeof room, &written) == NK_DONE && written > 12 && (room[3] & 15) == 5);
+    IS(ask_zone(&transfer, &zones, whole, 1000, NK_TCP, sizeof room, &written) == NK_DONE && (room[3] & 15) == 5 && room[11] == 1);   /* nobody may have it yet */
+    IS(allow(ORIGIN, "KEY.example.") == NK_DONE && ask_zone(&transfer, &zones, 0, 1000, NK_TCP, sizeof room, &written) == NK_DONE && (room[3] & 15) == 5);
+    IS(ask_zone(&transfer, &zones, whole, 1301, NK_TCP, sizeof room, &written) == NK_DONE && (room[3] & 15) == 9 && room[11] == 1);   /* BADTIME */
+    IS(ask_zone(&transfer, &zones, whole + 1, 1000, NK_TCP, sizeof room, &written) == NK_DONE && (room[3] & 15) == 1 && written == 12);
+    memset(room, 85, sizeof room);
+    IS(ask_zone(&transfer, &zones, whole, 1301, NK_TCP, 40, &written) == NK_NO_ROOM && written > 40 && is_untouched());
+    IS(ask_zone(&transfer, &zones, whole, 1000, NK_TCP, sizeof room, &written) == NK_TRANSFER && !written && is_untouched());
+    IS(nk_transfer_next(&transfer, 1000, room, 40, &written) == NK_NO_ROOM && written > 40 && is_untouched() && nk_transfer_next(&transfer, 1000, room, sizeof room, &written) == NK_NO_TRANSFER);
+    IS(ask_zone(&transfer, &zones, whole, 1300, NK_TCP, sizeof room, &written) == NK_TRANSFER && drop(&zones, ORIGIN) == NK_DONE && (nk_access_free(&access), allow(ORIGIN, "") == NK_NO_KEYS));
+    IS(nk_transfer_next(&transfer, 1300, room, sizeof room, &written) == NK_DONE && written > 300 && room[2] == 132 && !(room[3] & 15) && room[7] == 12 && room[11] == 1);
+    IS(nk_transfer_next(&transfer, 1300, room, sizeof room, &written) == NK_NO_MORE && !written && nk_transfer_next(&transfer, 1300, room, sizeof room, &written) == NK_NO_TRANSFER);
+    IS(read_keys("", &written) == NK_DONE && allow(ORIGIN, "") == NK_DONE && ask_zone(&transfer, &zones, 0, 1000, NK_TCP, sizeof room, &written) == NK_DONE && (room[3] & 15) == 9);
+    IS(load(&zones, 0, ORIGIN, text, &written) == NK_DONE && ask_zone(&transfer, &zones, 0, 1000, NK_TCP, sizeof room, &written) == NK_TRANSFER);
+    nk_transfer_free(&transfer), nk_transfer_free(&transfer), nk_access_free(&access), nk_zones_free(&zones);
+    return 0;
+}
+
+/* Each allocation of these calls fails in turn: what has memory for it goes on from where it was. */
+static int transfer_failures(nk_zones *zones) {
+    nk_transfer transfer = NK_TRANSFER_NONE;
+    size_t written;
+    uint32_t code;
+    long refused = 0;
+    for (long nth = 1; (left = nth, code = read_keys(keys, &written), left = -1, code) != NK_DONE; nth++, refused++) IS(code == NK_NO_MEMORY && allow(ORIGIN, "") == NK_NO_KEYS);
+    for (long nth = 1; (left = nth, code = allow(ORIGIN, "key.example"), left = -1, code) != NK_DONE; nth++, refused++) IS(code == NK_NO_MEMORY);
+    for (long nth = 1; (left = nth, code = ask_zone(&transfer, zones, sizeof tsig - 1, 1000, NK_TCP, sizeof room, &written), left = -1, code) != NK_TRANSFER; nth++, refused++)
+        IS(code == NK_NO_MEMORY && !written && nk_transfer_next(&transfer, 1000, room, sizeof room, &written) == NK_NO_TRANSFER);
+    for (long nth = 1; (left = nth, code = nk_transfer_next(&transfer, 1000, room, sizeof room, &written), left = -1, code) != NK_DONE; nth++, refused++) IS(code == NK_NO_MEMORY && !written);
+    IS(written > 300 && nk_transfer_next(&transfer, 1000, room, sizeof room, &written) == NK_NO_MORE);
+    nk_access_free(&access);
+    if (refused) printf("%ld times no memory for a transfer\n", refused);
+    return 0;
+}
+
 /* The calls of the session, by their numbers; and what is asked for. */
 static const char *const labels[] = {"www", "nowhere", "a.cut", "alias", "a.wild", "www"};
 static const int types[] = {16, 1, 1, 1, 1, 15};
@@ -285,7 +355,7 @@ static int datagrams(nk_zones *zones, long count) {
 int main(int argc, char **argv) {
     nk_zones zones = NK_ZONES_NONE;
     memset(before, 85, sizeof before);
-    int status = refusals() || plan_refusals() || cookies() || failures(&zones) || datagrams(&zones, argc > 1 ? atol(argv[1]) : 0) || plan_failures(&zones);
+    int status = refusals() || plan_refusals() || transfers() || cookies() || failures(&zones) || datagrams(&zones, argc > 1 ? atol(argv[1]) : 0) || transfer_failures(&zones) || plan_failures(&zones);
     nk_zones_free(&zones);
     return status;
 }

@@ -14,14 +14,16 @@ sys.path.append(os.path.dirname(os.path.dirname(os.path.realpath(__file__))))
 import sources
 
 HEADER, EXPORTS, CODES = "include/ningkraet.h", "crates/ningkraet/src/lib.rt", "crates/zone_database/src/outcome.rt"
-# The file of the codes that calls on plans have besides, and that of how a zone is to be signed.
-PLAN_CODES, SIGNING = "crates/plan_calls/src/outcome.rt", "crates/plan_calls/src/signing.rt"
+# The files of the codes that calls on plans and on transfers have besides, and that of how a zone is to be signed.
+PLAN_CODES, TRANSFER_CODES, SIGNING = "crates/plan_calls/src/outcome.rt", "crates/transfer_calls/src/outcome.rt", "crates/plan_calls/src/signing.rt"
 CLIENT, SUMMARY = "crates/arrival_calls/src/client.rt", "crates/arrival_calls/src/summary_numbers.rt"
 
 # What a parameter is in C. The allocator is none there, since it takes no octets.
 KINDS = {
     "Global": [],
     "&mut DatabaseHandle": ["nk_zones *"],
+    "&mut AccessHandle": ["nk_access *"],
+    "&mut TransferHandle": ["nk_transfer *"],
     "&mut PlanHandle": ["nk_plan *"],
     "&Signing": ["const nk_signing *"],
     "&[u8]": ["const uint8_t *", "size_t"],
@@ -62,7 +64,7 @@ def in_capitals(name):
 
 def told():
     """The codes of the library by their names in C."""
-    codes = re.findall(r"Outcome::(\w+) => (\d+),", sources.read(CODES))
+    codes = [it for file in (CODES, TRANSFER_CODES) for it in re.findall(r"Outcome::(\w+) => (\d+),", sources.read(file))]
     of_plans = re.findall(r"^const (\w+): u32 = (\d+);", sources.read(PLAN_CODES), re.M)
     return {in_capitals(name): int(code) for name, code in codes} | {f"NK_{name}": int(code) for name, code in of_plans}
 

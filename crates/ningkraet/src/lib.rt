@@ -1,17 +1,21 @@
 //! The zones of a server for programs that aren't written in Rattle: what `include/ningkraet.h` declares, each by one call of
-//! `zone_database`, `arrival_calls` or `plan_calls`. C passes no allocator; to C a slice is a pointer and a length, and a `&mut` a pointer.
+//! `zone_database`, `arrival_calls`, `transfer_calls` or `plan_calls`. C passes no allocator; to C a slice is a pointer and a length, and a `&mut` a pointer.
 #![tactic(auto)]
 
 ghost use Rattle.std.specs.Prelude.{◌≡◌, [], None};
 ghost use Rattle.arrival_calls.specs.ArrivalCalls.{AnswersClient};
 ghost use Rattle.zone_database.specs.Calls.{transport_of, AnswersHeld, AsksHeld, ChangesHeld, IsAdded, IsCreated, IsDropped, IsLoaded, IsPrepared, IsSerial, IsReported};
 ghost use Rattle.zone_database.specs.Outcomes.{code_of, Codes};
+ghost use Rattle.transfer_calls.specs.Accesses.{AllowsHeld, ReadsAccess};
+ghost use Rattle.transfer_calls.specs.Outcomes.{Codes as TransferCodes};
+ghost use Rattle.transfer_calls.specs.Transfers.{AnswersMessage, GivesMessage};
 ghost use Rattle.plan_calls.specs.Calls.{BeginsHeld, FinishesHeld, GivesHeld, TakesHeld};
 ghost use Rattle.plan_calls.specs.Outcomes.{Codes as PlanCodes};
 
 use arrival_calls::{ClientMessage, ServerSettings, SummaryNumbers, answer_client};
 use plan_calls::{PlanHandle, Signing, calls as plans};
 use std::alloc::Global;
+use transfer_calls::{AccessHandle, TransferHandle};
 use zone_database::{DatabaseHandle, calls};
 
 /// The number of the interface. It grows where a call or a code changes or goes.
@@ -160,6 +164,88 @@ pub extern "C" fn nk_zones_answer_client(
     ensures same { zones.new.held ≡ zones.old.held }
 {
     answer_client(alloc, zones, settings, message, buffer, written, summary).code()
+}
+
+/// Has another hold the keys of a text, in place of what it holds; nobody may have a zone then. Writes what is wrong with a text that is
+/// refused into the room.
+#[unsafe(no_mangle)]
+pub extern "C" fn nk_zones_keys(
+    alloc: Global,
+    access: &mut AccessHandle,
+    text: &[u8],
+    buffer: &mut [u8],
+    written: &mut usize,
+) -> u32
+    ensures { Codes result (λ o. ReadsAccess text.now access.old.held o access.new.held
+        × IsReported o written.new buffer.old buffer.new) }
+{
+    transfer_calls::read_access(alloc, access, text, buffer, written).code()
+}
+
+/// Lets those have the zone of an origin who have the key of a name, or anybody where the name has no octets.
+#[unsafe(no_mangle)]
+pub extern "C" fn nk_zones_allow(
+    alloc: Global,
+    access: &mut AccessHandle,
+    origin: &[u8],
+    key: &[u8],
+) -> u32
+    ensures { TransferCodes result (λ o.
+        AllowsHeld origin.now key.now access.old.held o access.new.held) }
+{
+    transfer_calls::allow(alloc, access, origin, key).code()
+}
+
+/// Gives the memory of the keys that are kept back. None are kept then.
+#[unsafe(no_mangle)]
+pub extern "C" fn nk_access_free(alloc: Global, access: &mut AccessHandle)
+    ensures { access.new.held ≡ None }
+{
+    transfer_calls::free_access(alloc, access)
+}
+
+/// Answers a client's message that has a TSIG or asks for a transfer, by the keys that are kept: writes the response into the room, or has the
+/// transfer begin.
+#[unsafe(no_mangle)]
+pub extern "C" fn nk_transfer_begin(
+    alloc: Global,
+    transfer: &mut TransferHandle,
+    zones: &mut DatabaseHandle,
+    access: &mut AccessHandle,
+    message: &ClientMessage<'_>,
+    buffer: &mut [u8],
+    written: &mut usize,
+) -> u32
+    ensures answer { TransferCodes result (λ o.
+        AnswersMessage zones.old.held access.old.held message.now transfer.old.held o written.new
+        buffer.old buffer.new transfer.new.held) }
+    ensures zones { zones.new.held ≡ zones.old.held }
+    ensures access { access.new.held ≡ access.old.held }
+{
+    transfer_calls::begin(alloc, transfer, zones, access, message, buffer, written).code()
+}
+
+/// Writes the next message of a transfer into the room, at a moment.
+#[unsafe(no_mangle)]
+pub extern "C" fn nk_transfer_next(
+    alloc: Global,
+    transfer: &mut TransferHandle,
+    now: u64,
+    buffer: &mut [u8],
+    written: &mut usize,
+) -> u32
+    ensures { TransferCodes result (λ o. GivesMessage now transfer.old.held o written.new buffer.old
+        buffer.new transfer.new.held) }
+{
+    transfer_calls::next(alloc, transfer, now, buffer, written).code()
+}
+
+/// Gives the memory of the transfer that is kept back. None is kept then.
+#[unsafe(no_mangle)]
+pub extern "C" fn nk_transfer_free(alloc: Global, transfer: &mut TransferHandle)
+    ensures { transfer.new.held ≡ None }
+{
+    transfer_calls::free(alloc, transfer)
 }
 
 /// Plans the zone of an origin, to be signed by these keys, in place of the plan that is kept. No zone changes.
