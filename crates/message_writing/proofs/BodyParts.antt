@@ -1,7 +1,7 @@
 -- The sections of a response, put one behind the other
 use Rattle.std.proofs.Common.{◌≡◌, ℕ, ◌+◌, ◌≤◌, Bool, true, ◌&&◌, not, List, [], ◌++◌, length, refl, sym, ap, subst, ◌∙◌, append_assoc, arith}
 use Rattle.std.proofs.lemmas.List.{append-nil, length-append}
-use Rattle.message_writing.specs.declared.body_writer.Counts.{Counts}
+use Rattle.message_writing.specs.declared.message_parts.Counts.{Counts}
 use Rattle.message_writing.specs.declared.error.WriteError.{WriteError}
 use Rattle.message_writing.specs.declared.response.Group.{Group}
 use Rattle.message_writing.specs.declared.response.Response.{Response}

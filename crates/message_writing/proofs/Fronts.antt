@@ -53,7 +53,7 @@ front_whole gs i room front old new within past at h counted = record {
 
 -- ---- the message
 
-opt_is : (size code : ℕ) (e : Option Extension) → 11 * length (opt_for size code e) ≡ opt_octets e
+pub opt_is : (size code : ℕ) (e : Option Extension) → 11 * length (opt_for size code e) ≡ opt_octets e
 opt_is size code None = refl
 opt_is size code (Some e) = refl
 

@@ -54,15 +54,15 @@ then_all old mid new [] ss h k = subst (λ s. AppendsAll strict_record_of s new 
 then_all old mid new (r ∷ rs) ss (next, a, h) k = (next, a, then_all next mid new rs ss h k)
 
 -- what was written comes after what was there
+pub written_behind : (old new : List ℕ) (rs : List Record) → AppendsAll strict_record_of old new rs → (w : List ℕ) × (new ≡ old ++ w)
+written_behind old new [] h = ([], h ∙ sym (append-nil old))
+written_behind old new (r ∷ rs) (mid, a, h) =
+    let w = written_behind mid new rs h in
+    (a.written ++ w.0, w.1 ∙ ap (λ s. s ++ w.0) a.is ∙ append_assoc old a.written w.0)
+
 pub stands_behind : (old new : List ℕ) (rs : List Record) → AppendsAll strict_record_of old new rs → take (length old) new ≡ old
 stands_behind old new rs h =
-    let w = behind old new rs h in ap (take (length old)) w.1 ∙ take_at old w.0 (length old) refl
-  where
-    behind : (old new : List ℕ) (rs : List Record) → AppendsAll strict_record_of old new rs → (w : List ℕ) × (new ≡ old ++ w)
-    behind old new [] h = ([], h ∙ sym (append-nil old))
-    behind old new (r ∷ rs) (mid, a, h) =
-        let w = behind mid new rs h in
-        (a.written ++ w.0, w.1 ∙ ap (λ s. s ++ w.0) a.is ∙ append_assoc old a.written w.0)
+    let w = written_behind old new rs h in ap (take (length old)) w.1 ∙ take_at old w.0 (length old) refl
 
 -- a record has an octet at least
 nothing_is_read : (m : List ℕ) (x : Record × List ℕ) → strict_record_of m [] ≡ Some x → ⊥

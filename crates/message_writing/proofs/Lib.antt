@@ -27,6 +27,8 @@ pub mod InForm
 pub mod HeaderPlaced
 pub mod BodyParts
 pub mod OptBack
-pub mod HelpSteps
+pub mod AskedNames
+pub mod WriterSteps
 pub mod RecordParts
 pub mod Fronts
+pub mod MoreGroups

@@ -12,7 +12,7 @@ use Rattle.message_writing.proofs.NameSteps.{within_goes_on, nothing_within, end
 
 -- ---- a name has at most 127 labels
 
-two_a_label : (n : Name) → AllByRecursion IsLabel n → length n + length n + 1 ≤ wire_length n
+pub two_a_label : (n : Name) → AllByRecursion IsLabel n → length n + length n + 1 ≤ wire_length n
 two_a_label [] h = omega arith
 two_a_label (l ∷ n) h = omega (arith, h.0.some, two_a_label n h.1)
 
@@ -21,14 +21,14 @@ few_labels n h = omega (arith, two_a_label n h.labels, h.short)
 
 -- ---- what is at an offset is there in each message that goes on
 
-known_inside : (octets : List ℕ) (p : ℕ) (n : Name) → IsKnown octets p n → p < length octets
+pub known_inside : (octets : List ℕ) (p : ℕ) (n : Name) → IsKnown octets p n → p < length octets
 known_inside octets p n h =
     elim (cases_lt p (length octets)) [
       | inl inside ↦ inside
       | inr past ↦ absurd (nothing_within 127 octets p (n, h.stands.after) (ap (name_within 127 octets p) (sym (drop_all p octets past)) ∙ h.stands.stands))
     ]
 
-known_after : (octets rest m : List ℕ) (g : Continues octets rest m) (p : ℕ) (n : Name) (k : ℕ) → 127 ≤ k → (h : IsKnown octets p n)
+pub known_after : (octets rest m : List ℕ) (g : Continues octets rest m) (p : ℕ) (n : Name) (k : ℕ) → 127 ≤ k → (h : IsKnown octets p n)
     → name_within k m p (drop p m) ≡ Some (n, h.stands.after ++ rest)
 known_after octets rest m g p n k enough h =
     let inside = known_inside octets p n h in

@@ -1,4 +1,5 @@
 -- Names that a message has already, and how a name is cut where its end is one of them (RFC 1035 section 4.1.4)
+use Rattle.std.specs.Borrow.{Bor}
 use Rattle.std.specs.Prelude.{◌≡◌, ℕ, zero, suc, ◌+◌, ◌/◌, ◌%◌, ◌<◌, ◌≤◌, List, [], ◌∷◌, ◌++◌, length, drop, Option, Some, None}
 use Rattle.zone_proto.specs.Names.{Name}
 use Rattle.message_reading.specs.MessageNames.{name_within}
@@ -39,3 +40,8 @@ pub record IsCut (octets : List ℕ) (labels : ℕ) (pointer : Option ℕ) (n : 
 abbrev pub IsShort : Option ℕ → Type 0
 IsShort None = Unit {0}
 IsShort (Some p) = p < 16384
+
+-- the name that is asked for, if there is one, comes after the header
+abbrev pub IsAskedAt : List ℕ → Option (Bor Name) → Type 0
+IsAskedAt octets None = Unit {0}
+IsAskedAt octets (Some n) = IsKnown octets 12 n.now

@@ -9,3 +9,4 @@ pub mod Outcomes
 pub mod Fronts
 pub mod Checks
 pub mod PlainText
+pub mod Writers

@@ -8,7 +8,7 @@ use Rattle.message_writing.specs.declared.error.WriteError.{WriteError}
 use Rattle.message_writing.specs.declared.error.WriteError.TheVariants as errors
 use Rattle.message_writing.specs.declared.response.Group.{Group}
 use Rattle.message_writing.specs.declared.response.Response.{Response}
-use Rattle.message_writing.specs.declared.body_writer.Counts.{Counts}
+use Rattle.message_writing.specs.declared.message_parts.Counts.{Counts}
 use Rattle.message_writing.specs.Continuing.{AppendsAll}
 use Rattle.message_writing.specs.DataText.{IsWritable}
 use Rattle.message_writing.specs.Responses.{AreHelpful, GoesOver, IsBody, IsSection, IsWritten, all_records, opt_length}

@@ -1,17 +1,18 @@
 //! Responses that go on in further messages, as that to a query for a whole zone does (RFC 5936 section 2.2).
 ghost use Rattle.std.specs.Prelude.{◌≡◌, ◌≢◌, ◌≤◌, ◌<◌, IfErr, IfOk, OnOk, length};
 ghost use Rattle.message_writing.specs.Fronts.{IsFront, IsFrontPut, WritesFront};
+ghost use Rattle.message_writing.specs.KnownNames.{IsAskedAt};
 ghost use Rattle.message_writing.specs.Outcomes.{FailsToPutAny, FailsToWrite};
 ghost use Rattle.message_writing.specs.Responses.{all_records};
 
-use crate::body_writer::{Counts, count_of};
 use crate::error::WriteError;
-use crate::group_writer::{Writing, write_group};
+use crate::group_writer::{Setting, count_of, write_group};
+use crate::hints::Hints;
+use crate::message_parts::{
+    Counts, GREATEST_CODE, OPT_OCTETS, opt_count, push_opt, push_question, put_header,
+};
 use crate::name_writer::wire_length;
 use crate::response::{Group, Response};
-use crate::response_writer::{
-    GREATEST_CODE, OPT_OCTETS, hints_of, opt_count, push_opt, push_question, put_header,
-};
 use std::alloc::Global;
 
 /// Writes the first answers of a response as a message of so many octets at most, in place of the octets of `out`, and gives how many
@@ -53,19 +54,21 @@ pub(crate) struct Front {
 /// Appends groups, each whole, up to the first that goes over.
 fn write_groups(
     out: &mut Vec<u8>,
-    writing: &mut Writing,
+    setting: &Setting<'_>,
     groups: &[Group<'_>],
 ) -> Result<Front, WriteError>
-    requires { length out.old.items ≤ writing.old.room }
+    requires room { length out.old.items ≤ setting.now.room }
+    requires asked { IsAskedAt out.old.items setting.now.asked }
     ensures ok { IfOk result
-        (IsFrontPut writing.old.room out.old.items out.new.items groups.now) }
-    ensures within { IfOk result (λ front. length out.new.items ≤ writing.old.room) }
+        (IsFrontPut setting.now.room out.old.items out.new.items groups.now) }
+    ensures within { IfOk result (λ front. length out.new.items ≤ setting.now.room) }
     ensures err { IfErr result (FailsToPutAny (all_records groups.now)) }
 {
+    let mut hints = Hints::new(setting.alloc);
     let mut count = 0usize;
     let mut records = 0usize;
     for group in groups {
-        if !write_group(out, writing, group)? {
+        if !write_group(out, &mut hints, setting, group)? {
             return Ok(Front {
                 groups: count,
                 records,
@@ -104,14 +107,15 @@ fn compose_front(
     if limit < least {
         return Err(WriteError::NoRoom);
     }
-    let mut writing = Writing {
+    let setting = Setting {
         alloc,
-        hints: hints_of(alloc, question)?,
+        question,
+        asked: None,
         room: limit - OPT_OCTETS * opts,
     };
     out.extend_from_slice(&[0; 12])?;
     push_question(out, question)?;
-    let front = write_groups(out, &mut writing, response.answers)?;
+    let front = write_groups(out, &setting, response.answers)?;
     push_opt(out, response)?;
     let counts = Counts {
         answers: front.records,

@@ -2,9 +2,13 @@
 
 use crate::fingerprints::Fingerprint;
 use crate::name_writer::Cut;
+use message_reading::Question;
 use smallvec::SmallVec;
 use std::alloc::{AllocError, Global};
 use zone_proto::Labels;
+
+/// Where the question begins: behind the twelve octets of the header (RFC 1035 section 4.1.1).
+pub(crate) const AFTER_HEADER: usize = 12;
 
 /// How many offsets are kept: for each of its labels, a name costs a look at each of them.
 const MAX_OFFSETS: usize = 16;
@@ -22,6 +26,8 @@ pub(crate) struct Hint {
 #[derive(Drop)]
 pub(crate) struct Hints {
     hints: SmallVec<Hint, 16>,
+    /// Whether those of the question are kept.
+    has_question: bool,
 }
 
 impl Hints {
@@ -29,12 +35,27 @@ impl Hints {
     pub(crate) fn new(alloc: Global) -> Hints {
         Hints {
             hints: SmallVec::new(alloc),
+            has_question: false,
         }
     }
 
     /// The hints.
     pub(crate) fn as_slice(&self) -> &[Hint] {
         self.hints.as_slice()
+    }
+
+    /// Keeps the offsets of the labels of the question, which comes after the header, before any others. Many responses need none:
+    /// their owners are all what is asked for, and their data have no names.
+    pub(crate) fn note_question(&mut self, question: &Question) -> Result<(), AllocError> {
+        if self.has_question {
+            return Ok(());
+        }
+        self.has_question = true;
+        let whole = Cut {
+            labels: question.name.num_labels(),
+            pointer: None,
+        };
+        self.note(AFTER_HEADER, whole, question.name.labels())
     }
 
     /// Keeps the offsets of the labels of an owner that was written at an offset as it is cut. Where there is no room, the last one
@@ -53,6 +74,9 @@ impl Hints {
 
     /// Keeps the offsets of the labels of a name that was written at an offset as it is cut, where there is room.
     pub(crate) fn note(&mut self, at: usize, cut: Cut, name: Labels<'_>) -> Result<(), AllocError> {
+        if cut.labels == 0 {
+            return Ok(());
+        }
         let mut fingerprint = Fingerprint::of(name.clone());
         let mut left = name;
         let mut here = at;

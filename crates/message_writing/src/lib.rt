@@ -5,7 +5,6 @@
 //! written of, whatever follows it. A call that takes memory answers a `Result`, and where a growth is refused it answers `Memory`.
 #![tactic(auto)]
 
-mod body_writer;
 mod data_writer;
 mod denial_writer;
 mod error;
@@ -14,6 +13,7 @@ mod front_writer;
 mod group_writer;
 mod hints;
 mod known_names;
+mod message_parts;
 mod name_writer;
 mod numbers;
 mod plain_data;
@@ -21,11 +21,13 @@ mod record_writer;
 mod response;
 mod response_writer;
 mod type_map;
+mod whole_response;
 mod writable;
 
 pub use error::WriteError;
 pub use front_writer::write_front;
 pub use plain_data::push_plain_data;
-pub use response::{Group, Response};
-pub use response_writer::write_response;
+pub use response::{Group, Response, ResponseHead, Section};
+pub use response_writer::ResponseWriter;
 pub use type_map::push_types;
+pub use whole_response::write_response;

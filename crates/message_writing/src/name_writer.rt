@@ -77,16 +77,15 @@ fn push_ending(out: &mut Vec<u8>, pointer: Option<u16>) -> Result<(), AllocError
 }
 
 /// Appends a name without pointers.
-#[tactic(auto, using(crate::proofs::CutTexts::wire_cut))]
 pub(crate) fn push_wire(out: &mut Vec<u8>, name: Labels<'_>) -> Result<(), AllocError>
     requires { IsName name }
     ensures { OnOk result (out.new.items ≡ out.old.items ++ wire_form name.entry) }
 {
-    let cut = Cut {
-        labels: name.len(),
-        pointer: None,
-    };
-    push_cut(out, cut, name)
+    for label in name {
+        push_label(out, label)?;
+    }
+    out.push(0)?;
+    Ok(())
 }
 
 /// How many octets a name takes without pointers.

@@ -1,40 +1,43 @@
 //! Records written into a message (RFC 1035 section 4.1.3).
-ghost use Rattle.std.specs.Prelude.{◌≡◌, ◌++◌, OnOk, IfErr};
+ghost use Rattle.std.specs.Prelude.{◌≡◌, ◌++◌, true, OnOk, IfErr, IfOk, IsSomeAnd};
 ghost use Rattle.zone_proto.specs.Data.{type_of};
 ghost use Rattle.message_writing.specs.Continuing.{Appends};
-ghost use Rattle.message_writing.specs.DataText.{long_text, short_text};
+ghost use Rattle.message_writing.specs.DataText.{AreCuts, long_text, short_text};
+ghost use Rattle.message_writing.specs.KnownNames.{IsAskedAt, IsCut};
 ghost use Rattle.message_writing.specs.Outcomes.{FailsToPut};
 ghost use Rattle.message_writing.specs.Responses.{with_ttl};
 ghost use Rattle.message_writing.specs.StrictReading.{strict_record_of};
 
 use crate::data_writer::{DataCuts, data_cuts, push_data};
 use crate::error::WriteError;
-use crate::hints::Hints;
-use crate::name_writer::{cut_of, push_cut};
+use crate::group_writer::Setting;
+use crate::hints::{AFTER_HEADER, Hints};
+use crate::name_writer::{Cut, cut_of, push_cut};
 use crate::numbers::{push_short, put_short};
 use crate::writable::is_writable;
-use std::alloc::{AllocError, Global};
-use zone_proto::{RData, Record};
+use std::alloc::AllocError;
+use zone_proto::{Name, RData, Record};
 
 /// Appends a record with another TTL. What was written reads back as this record, in each message that goes on with what stood before
 /// it and whatever follows.
 pub(crate) fn write_record(
-    alloc: Global,
     out: &mut Vec<u8>,
     hints: &mut Hints,
+    setting: &Setting<'_>,
     ttl: u32,
     r: &Record,
 ) -> Result<(), WriteError>
+    requires { IsAskedAt out.old.items setting.now.asked }
     ensures ok { OnOk result (Appends strict_record_of out.old.items out.new.items
         (with_ttl ttl r.now)) }
     ensures err { IfErr result (FailsToPut r.now.rdata) }
 {
-    if !is_writable(alloc, &r.rdata)? {
+    if !is_writable(setting.alloc, &r.rdata)? {
         return Err(WriteError::Unwritable);
     }
     let start = out.as_slice().len();
-    let owner = cut_of(out.as_slice(), hints.as_slice(), r.name.labels());
-    let cuts = data_cuts(out.as_slice(), hints.as_slice(), &r.rdata);
+    let owner = owner_cut(out.as_slice(), hints, setting, &r.name)?;
+    let cuts = names_cut(out.as_slice(), hints, setting, &r.rdata)?;
     push_cut(out, owner, r.name.labels())?;
     push_fields(out, ttl, r)?;
     let at = out.as_slice().len();
@@ -45,6 +48,54 @@ pub(crate) fn write_record(
     hints.note_owner(start, owner, r.name.labels())?;
     note_names(hints, at + 2, cuts, &r.rdata)?;
     Ok(())
+}
+
+/// How an owner is cut: a pointer to the question stands for it, if it is what is asked for.
+fn owner_cut(
+    out: &[u8],
+    hints: &mut Hints,
+    setting: &Setting<'_>,
+    owner: &Name,
+) -> Result<Cut, AllocError>
+    requires { IsAskedAt out.now setting.now.asked }
+    ensures { IfOk result (λ cut. IsCut out.now cut.labels cut.pointer owner.now) }
+{
+    if is_asked(setting, owner) {
+        return Ok(Cut {
+            labels: 0,
+            pointer: Some(AFTER_HEADER as u16),
+        });
+    }
+    hints.note_question(setting.question)?;
+    Ok(cut_of(out, hints.as_slice(), owner.labels()))
+}
+
+/// Whether a name is the one that is asked for, in lower case as that is. If not, it may be so nevertheless.
+fn is_asked(setting: &Setting<'_>, name: &Name) -> bool
+    ensures { result ≡ true → IsSomeAnd setting.now.asked (λ asked. name.now ≡ asked.now) }
+{
+    match setting.asked {
+        Some(asked) => asked.is_exactly(name),
+        None => false,
+    }
+}
+
+/// How the names of data are cut.
+fn names_cut(
+    out: &[u8],
+    hints: &mut Hints,
+    setting: &Setting<'_>,
+    rdata: &RData,
+) -> Result<DataCuts, AllocError>
+    ensures { IfOk result (λ cuts. AreCuts out.now cuts.first cuts.second rdata.now) }
+{
+    match rdata {
+        RData::NS(_) | RData::CNAME(_) | RData::MX(_) | RData::SOA(_) => {
+            hints.note_question(setting.question)?;
+        }
+        _ => {}
+    }
+    Ok(data_cuts(out, hints.as_slice(), rdata))
 }
 
 /// Appends what stands between the owner of a record and RDLENGTH.

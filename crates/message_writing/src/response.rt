@@ -1,4 +1,5 @@
 //! Responses as a server means them.
+ghost use Rattle.message_writing.specs.Writers.{HasNoGroups, IsHeadOf};
 
 use message_reading::Query;
 use zone_proto::Record;
@@ -35,4 +36,47 @@ pub struct Response<'g, 'r> {
     pub glue: &'g [Group<'r>],
     /// What goes into the additional section where there is room.
     pub additionals: &'g [Group<'r>],
+}
+
+/// A section of a response (RFC 1035 section 4.1), or a part of one.
+#[derive(Clone, Copy, PartialEq, Eq, Debug)]
+pub enum Section {
+    /// The answer section.
+    Answers,
+    /// The authority section.
+    Authorities,
+    /// What has to be in the additional section (RFC 9471).
+    Glue,
+    /// What goes into the additional section where there is room.
+    Additionals,
+}
+
+/// What a response says besides its groups of records, which are written one by one.
+#[derive(Clone, Copy, Debug)]
+pub struct ResponseHead<'q> {
+    /// The query that is answered.
+    pub query: &'q Query,
+    /// AA: the server is an authority for the name.
+    pub authoritative: bool,
+    /// The response code, of twelve bits; a response without an OPT record tells the lower four alone (RFC 6891 section 6.1.3).
+    pub code: u16,
+    /// How many octets the server takes in one datagram.
+    pub size: u16,
+}
+
+/// The response of a head, with no groups.
+pub(crate) fn without_groups<'q>(head: ResponseHead<'q>) -> Response<'q, 'q>
+    ensures head { IsHeadOf head.entry result }
+    ensures none { HasNoGroups result }
+{
+    Response {
+        query: head.query,
+        authoritative: head.authoritative,
+        code: head.code,
+        size: head.size,
+        answers: &[],
+        authorities: &[],
+        glue: &[],
+        additionals: &[],
+    }
 }

@@ -3,13 +3,13 @@ ghost use Rattle.zone_database.specs.Origins.{AreUnderOrigins};
 
 use crate::stored_zone::StoredZone;
 use crate::zone::Zone;
-use message_reading::{Query, read_query};
+use message_reading::{Query, ReadError, read_query};
 use std::alloc::{AllocError, Global};
 use std::collections::BTreeMap;
 use std::sync::Arc;
 use zone_origins::nearest;
 use zone_proto::{LowerName, RecordType};
-use zone_server::{Answered, Transport, answer};
+use zone_server::{Answered, Transport, answer_read};
 
 /// The zones that a server has, of each origin one. Several databases may share a zone, which none of them changes.
 #[derive(Drop)]
@@ -25,7 +25,7 @@ impl ZoneDatabase {
     ghost use Rattle.std.specs.Prelude.{◌≡◌, ◌≢◌, [], IfOk, IsTrue, Ok, OnOk, OnErr, map, option_copied, option_map};
     ghost use Rattle.std.specs.Arc.{arc_value};
     ghost use Rattle.std.specs.List.{find};
-    ghost use Rattle.message_reading.specs.Queries.{query_of};
+    ghost use Rattle.message_reading.specs.Queries.{query_of, ReadsQuery};
     ghost use Rattle.zone_server.specs.Answers.{IsAnswer, IsResponseTo, SaysWhether};
     ghost use Rattle.zone_server.specs.Limits.{limit_for};
     ghost use Rattle.zone_database.specs.Databases.{begins_at, has_zone, with_zone, without, zones_in};
@@ -144,27 +144,30 @@ impl ZoneDatabase {
             out.new.items) }
         ensures told { IfOk result (λ told. SaysWhether told out.new.items) }
     {
-        if self.prepared && self.put_ready(alloc, message, transport, out)? {
+        let read = read_query(alloc, message);
+        if self.prepared && self.put_ready(message, &read, transport, out)? {
             return Ok(Answered::Response);
         }
-        answer(alloc, self, message, transport, out)
+        answer_read(alloc, self, read, transport, out)
     }
 
-    /// Answers a message by an answer that is kept, and says whether there is one. Fails only for lack of memory.
+    /// Answers a message by an answer that is kept, and says whether there is one. `read` is what is read of it. Fails only for lack of
+    /// memory.
     fn put_ready(
         &self,
-        alloc: Global,
         message: &[u8],
+        read: &Result<Query, ReadError>,
         transport: Transport,
         out: &mut Vec<u8>,
     ) -> Result<bool, AllocError>
+        requires { ReadsQuery read.now (query_of message.now) }
         ensures answer { IfOk result (λ found. IsTrue found
             → IsAnswer (map served_zone (zones_in self.now)) transport message.now
             out.new.items) }
         ensures octets { IfOk result (λ found. IsTrue found → out.new.items ≢ []) }
     {
-        match read_query(alloc, message) {
-            Ok(query) => self.put_ready_to(message, &query, transport, out),
+        match read {
+            Ok(query) => self.put_ready_to(message, query, transport, out),
             Err(_) => Ok(false),
         }
     }

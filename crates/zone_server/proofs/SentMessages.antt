@@ -12,9 +12,10 @@ use Rattle.message_writing.specs.declared.error.WriteError.TheVariants.{Unwritab
 use Rattle.message_writing.specs.declared.response.Group.{Group}
 use Rattle.message_writing.specs.declared.response.Response.{Response}
 use Rattle.message_writing.specs.Outcomes.{HasUnwritable, Writes, records_in as records_written}
-use Rattle.message_writing.specs.Responses.{records_of}
-use Rattle.zone_server.specs.Answers.{records_in, records_sent, AreSets, Means}
-use Rattle.zone_server.specs.Sending.{Sends}
+use Rattle.message_writing.specs.Responses.{IsWritten, records_of}
+use Rattle.zone_server.specs.Answers.{code_number, records_in, records_sent, AreSets, IsSent, Means}
+use Rattle.zone_server.specs.Limits.{datagram_size}
+use Rattle.zone_server.specs.Sending.{HasSections, Sends}
 
 -- ---- the records of groups are those of the sets that they are
 
@@ -57,6 +58,25 @@ sends limit q s r octets (Err Unwritable) h room m = subst HasUnwritable (same_r
 sends limit q s r octets (Err NoRoom) h room m = room refl
 sends limit q s r octets (Err BadCode) h room m = subst (λ n. 4095 < n) m.code h.1
 sends limit q s r octets (Err Memory) h room m = tt
+
+-- the same of a response that was written set by set
+pub sends_whole : (limit : ℕ) (q : ReadQuery) (s : Sections) (empty whole : Response) (octets : List ℕ) → empty.query.now ≡ q
+    → empty.code ≡ code_number s.code → empty.authoritative ≡ s.authoritative → empty.size ≡ datagram_size → HasSections s empty whole
+    → IsWritten limit whole octets → IsSent limit q s octets
+sends_whole limit q s empty whole octets query code authoritative size h written = record {
+  response = whole;
+  means = record {
+    query = h.query ∙ query;
+    code = h.code ∙ code;
+    authoritative = h.authoritative ∙ authoritative;
+    size = h.size ∙ size;
+    answers = h.answers;
+    authorities = h.authorities;
+    glue = h.glue;
+    additionals = h.additionals;
+  };
+  written = written;
+}
 
 -- ---- a response of a code alone has no records
 

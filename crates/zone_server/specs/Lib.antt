@@ -4,7 +4,6 @@ pub mod Limits
 pub mod BareHeaders
 pub mod Answers
 pub mod Sending
-pub mod Outgoing
 pub mod Frames
 pub mod Transfers
 pub mod Serving

@@ -64,8 +64,8 @@ pub fn answer<Z: ServedZones>(
     answer_read(alloc, zones, read, transport, out)
 }
 
-/// Answers a message by what is read of it.
-pub(crate) fn answer_read<Z: ServedZones>(
+/// Answers a message by what is read of it, as `answer` does: for a caller that has read it already. Fails only for lack of memory.
+pub fn answer_read<Z: ServedZones>(
     alloc: Global,
     zones: &Z,
     read: Result<Query, ReadError>,
@@ -167,7 +167,7 @@ fn send_response<Z: ServedZones>(
         dnssec_ok: asks_for_dnssec(query),
     };
     match respond(zone, question, options) {
-        Ok(response) => send(alloc, out, query, &response, limit),
+        Ok(response) => send(alloc, out, query, &name, &response, limit),
         Err(_) => Err(AllocError),
     }
 }

@@ -1,59 +1,119 @@
 //! The sets of a response as groups of records, each of which is sent whole or not at all.
-ghost use Rattle.std.specs.Prelude.{◌≡◌, map, IfOk};
-ghost use Rattle.std.specs.List.{list_all};
+ghost use Rattle.std.specs.Prelude.{◌≡◌, [], ◌∷◌, map, IfErr, IfNone, IfOk, IfSome, OnOk};
+ghost use Rattle.std.specs.List.{flat_map, list_all};
 ghost use Rattle.zone_proto.specs.declared.record.Record.{Record as RecordData};
 ghost use Rattle.zone_lookup.specs.FoundSets.{found_set};
-ghost use Rattle.zone_response.specs.Sections.{covers, own_signatures, sent_set};
-ghost use Rattle.message_writing.specs.Responses.{records_of, with_ttl};
-ghost use Rattle.zone_server.specs.Answers.{records_sent};
-ghost use Rattle.zone_server.specs.Outgoing.{records_outgoing, signatures_outgoing};
+ghost use Rattle.zone_response.specs.Sections.{covers, own_signatures, sections, sent_set};
+ghost use Rattle.message_writing.specs.Outcomes.{FailsToPutAny};
+ghost use Rattle.message_writing.specs.Responses.{with_ttl};
+ghost use Rattle.message_writing.specs.Writers.{CanGoOn};
+ghost use Rattle.zone_server.specs.Answers.{records_in, records_sent};
+ghost use Rattle.zone_server.specs.Sending.{PutsSections, PutsSets};
 
-use message_writing::Group;
-use std::alloc::{AllocError, Global};
+use message_writing::{Group, ResponseWriter, Section, WriteError};
+use std::alloc::Global;
 use zone_proto::{ProtoError, Record};
-use zone_response::{Part, Sent};
+use zone_response::{Part, Response, Sent};
 
-/// What is sent of a set.
-#[derive(Drop)]
-pub(crate) struct Outgoing<'s> {
-    pub(crate) records: &'s [Record],
-    pub(crate) signatures: Signatures<'s>,
-    pub(crate) ttl: u32,
-}
-
-/// The signatures of a set that are sent.
-#[derive(Drop)]
-pub(crate) enum Signatures<'s> {
-    /// All that the set has, or none.
-    Lent(&'s [Record]),
-    /// Those that cover its type, where it has others.
-    Own(Vec<Record>),
-}
-
-/// What is sent of the sets of a section.
-pub(crate) fn outgoing_sets<'s>(
+/// Appends the sets of a response, section by section, to what is written of it.
+pub(crate) fn put_sections(
     alloc: Global,
-    section: &'s [Sent<'_>],
-) -> Result<Vec<Outgoing<'s>>, ProtoError>
-    ensures { IfOk result (λ v. map records_outgoing v.items
-        ≡ map records_sent (map sent_set section.now)) }
+    writer: &mut ResponseWriter<'_>,
+    out: &mut Vec<u8>,
+    response: &Response<'_>,
+) -> Result<(), WriteError>
+    requires { CanGoOn writer.old out.old.items }
+    ensures put { OnOk result (PutsSections (sections response.now)
+        writer.old out.old.items writer.new out.new.items) }
+    ensures going { OnOk result (CanGoOn writer.new out.new.items) }
+    ensures err { IfErr result (FailsToPutAny (records_in (sections response.now))) }
 {
-    let mut all = Vec::with_capacity(alloc, section.len())?;
-    for sent in section {
-        all.push(outgoing_of(alloc, sent)?)?;
-    }
-    Ok(all)
+    let (answers, authorities) = (&response.answers, &response.authorities);
+    put_sets(alloc, writer, out, Section::Answers, answers.as_slice())?;
+    put_sets(
+        alloc,
+        writer,
+        out,
+        Section::Authorities,
+        authorities.as_slice(),
+    )?;
+    let (glue, additionals) = (&response.glue, &response.additionals);
+    put_sets(alloc, writer, out, Section::Glue, glue.as_slice())?;
+    put_sets(
+        alloc,
+        writer,
+        out,
+        Section::Additionals,
+        additionals.as_slice(),
+    )?;
+    Ok(())
 }
 
-/// What is sent of a set.
-fn outgoing_of<'s>(alloc: Global, sent: &'s Sent<'_>) -> Result<Outgoing<'s>, ProtoError>
-    ensures { IfOk result (λ o. records_outgoing o ≡ records_sent (sent_set sent.now)) }
+/// Appends sets to a section, each as one group.
+fn put_sets(
+    alloc: Global,
+    writer: &mut ResponseWriter<'_>,
+    out: &mut Vec<u8>,
+    section: Section,
+    sets: &[Sent<'_>],
+) -> Result<(), WriteError>
+    requires { CanGoOn writer.old out.old.items }
+    ensures put { OnOk result (PutsSets section (map sent_set sets.now)
+        writer.old out.old.items writer.new out.new.items) }
+    ensures going { OnOk result (CanGoOn writer.new out.new.items) }
+    ensures err { IfErr result (FailsToPutAny (flat_map records_sent (map sent_set sets.now))) }
 {
-    Ok(Outgoing {
+    for sent in sets {
+        put_set(alloc, writer, out, section, sent)?;
+    }
+    Ok(())
+}
+
+/// Appends a set to a section.
+fn put_set(
+    alloc: Global,
+    writer: &mut ResponseWriter<'_>,
+    out: &mut Vec<u8>,
+    section: Section,
+    sent: &Sent<'_>,
+) -> Result<(), WriteError>
+    requires { CanGoOn writer.old out.old.items }
+    ensures put { OnOk result (PutsSets section (sent_set sent.now ∷ [])
+        writer.old out.old.items writer.new out.new.items) }
+    ensures going { OnOk result (CanGoOn writer.new out.new.items) }
+    ensures err { IfErr result (FailsToPutAny (records_sent (sent_set sent.now))) }
+{
+    match signatures_lent(sent) {
+        Some(signatures) => put_records(writer, out, section, sent, signatures),
+        None => {
+            let own = own_signatures(alloc, sent)?;
+            put_records(writer, out, section, sent, own.as_slice())
+        }
+    }
+}
+
+/// Appends what is sent of a set, with these signatures, to a section.
+fn put_records(
+    writer: &mut ResponseWriter<'_>,
+    out: &mut Vec<u8>,
+    section: Section,
+    sent: &Sent<'_>,
+    signatures: &[Record],
+) -> Result<(), WriteError>
+    requires going { CanGoOn writer.old out.old.items }
+    requires signatures { map (with_ttl sent.now.ttl) signatures.now
+        ≡ (sent_set sent.now).signatures }
+    ensures put { OnOk result (PutsSets section (sent_set sent.now ∷ [])
+        writer.old out.old.items writer.new out.new.items) }
+    ensures going { OnOk result (CanGoOn writer.new out.new.items) }
+    ensures err { IfErr result (FailsToPutAny (records_sent (sent_set sent.now))) }
+{
+    let group = Group {
         records: records_out(sent),
-        signatures: signatures_out(alloc, sent)?,
+        signatures,
         ttl: sent.ttl,
-    })
+    };
+    writer.put(out, section, &group)
 }
 
 /// The records of a set that are sent.
@@ -66,26 +126,28 @@ fn records_out<'s>(sent: &'s Sent<'_>) -> &'s [Record]
     }
 }
 
-/// The signatures of a set that are sent.
-fn signatures_out<'s>(alloc: Global, sent: &'s Sent<'_>) -> Result<Signatures<'s>, ProtoError>
-    ensures { IfOk result (λ s. map (with_ttl sent.now.ttl) (signatures_outgoing s)
+/// The signatures of a set that are sent, if these are all that it has, or none.
+fn signatures_lent<'s>(sent: &'s Sent<'_>) -> Option<&'s [Record]>
+    ensures lent { IfSome result (λ signatures. map (with_ttl sent.now.ttl) signatures.now
         ≡ (sent_set sent.now).signatures) }
+    ensures others { IfNone result (map (with_ttl sent.now.ttl)
+        (own_signatures (found_set sent.now.set)) ≡ (sent_set sent.now).signatures) }
 {
     match sent.part {
-        Part::Records => Ok(Signatures::Lent(&[])),
-        Part::Signed | Part::Signatures => own(alloc, sent),
+        Part::Records => Some(&[]),
+        Part::Signed | Part::Signatures => all_if_own(sent),
     }
 }
 
-/// The signatures of a set that cover its type: lent where it has no others.
-fn own<'s>(alloc: Global, sent: &'s Sent<'_>) -> Result<Signatures<'s>, ProtoError>
-    ensures { IfOk result
-        (λ s. signatures_outgoing s ≡ own_signatures (found_set sent.now.set)) }
+/// The signatures of a set, if all cover its type.
+fn all_if_own<'s>(sent: &'s Sent<'_>) -> Option<&'s [Record]>
+    ensures { IfSome result
+        (λ signatures. signatures.now ≡ own_signatures (found_set sent.now.set)) }
 {
     if are_own(sent) {
-        return Ok(Signatures::Lent(sent.set.set().rrsigs()));
+        return Some(sent.set.set().rrsigs());
     }
-    Ok(Signatures::Own(own_signatures(alloc, sent)?))
+    None
 }
 
 /// Whether all signatures of a set cover its type.
@@ -113,34 +175,4 @@ fn own_signatures(alloc: Global, sent: &Sent<'_>) -> Result<Vec<Record>, ProtoEr
         }
     }
     Ok(signatures)
-}
-
-impl Signatures<'_> {
-    /// The signatures.
-    fn as_slice(&self) -> &[Record]
-        ensures { result.now ≡ signatures_outgoing self.now }
-    {
-        match self {
-            Signatures::Lent(signatures) => signatures,
-            Signatures::Own(signatures) => signatures.as_slice(),
-        }
-    }
-}
-
-/// The groups of what is sent, each of one set.
-pub(crate) fn groups<'g>(
-    alloc: Global,
-    outgoing: &'g [Outgoing<'_>],
-) -> Result<Vec<Group<'g>>, AllocError>
-    ensures { IfOk result (λ v. map records_of v.items ≡ map records_outgoing outgoing.now) }
-{
-    let mut all = Vec::with_capacity(alloc, outgoing.len())?;
-    for set in outgoing {
-        all.push(Group {
-            records: set.records,
-            signatures: set.signatures.as_slice(),
-            ttl: set.ttl,
-        })?;
-    }
-    Ok(all)
 }

@@ -10,7 +10,6 @@ mod bare_header;
 mod frames;
 mod groups;
 mod listed_zones;
-mod sections;
 mod sending;
 mod server;
 mod serving;
@@ -23,7 +22,7 @@ mod transport;
 mod waiting;
 mod zones;
 
-pub use answering::{Answered, answer};
+pub use answering::{Answered, answer, answer_read};
 pub use bare_header::write_bare_header;
 pub use frames::Mode;
 pub use listed_zones::ListedZones;

@@ -3,32 +3,32 @@ ghost use Rattle.std.specs.Prelude.{◌≡◌, ◌≤◌, OnOk};
 ghost use Rattle.zone_response.specs.Responses.{bare};
 ghost use Rattle.zone_response.specs.Sections.{sections};
 ghost use Rattle.zone_server.specs.Answers.{code_number, GoesOut, IsSent};
-ghost use Rattle.zone_server.specs.Outgoing.{AreGroups};
 ghost use Rattle.zone_server.specs.Sending.{Sends};
 ghost use Rattle.zone_server.specs.Transfers.{soa_sections};
 
-use crate::sections::{GroupedSections, grouped_sections, outgoing_sections};
+use crate::groups::put_sections;
 use crate::transfer_records::soa_alone;
 use crate::transport::DATAGRAM_SIZE;
 use message_reading::Query;
-use message_writing::{Response as Message, WriteError, write_response};
+use message_writing::{Response as Message, ResponseHead, ResponseWriter, WriteError, write_response};
 use std::alloc::{AllocError, Global};
-use zone_proto::{RecordSet, ResponseCode};
+use zone_proto::{LowerName, RecordSet, ResponseCode};
 use zone_response::Response;
 
 /// Writes the response to a query within a limit, in place of the octets of `out`; where no message has its code, or the data of one
-/// of its records, one of `ServFail`.
+/// of its records, one of `ServFail`. `name` is that of the question in lower case.
 pub(crate) fn send(
     alloc: Global,
     out: &mut Vec<u8>,
     query: &Query,
+    name: &LowerName,
     response: &Response<'_>,
     limit: u16,
 ) -> Result<(), AllocError>
     requires { 512 ≤ limit }
     ensures { OnOk result (GoesOut limit query.now (sections response.now) out.new.items) }
 {
-    match send_sections(alloc, out, query, response, limit) {
+    match send_sections(alloc, out, query, name, response, limit) {
         Ok(()) => Ok(()),
         Err(WriteError::Unwritable | WriteError::BadCode) => {
             send_code(alloc, out, query, ResponseCode::ServFail, limit)
@@ -44,41 +44,23 @@ fn send_sections(
     alloc: Global,
     out: &mut Vec<u8>,
     query: &Query,
+    name: &LowerName,
     response: &Response<'_>,
     limit: u16,
 ) -> Result<(), WriteError>
     requires { 512 ≤ limit }
     ensures { Sends limit query.now (sections response.now) out.new.items result }
 {
-    let outgoing = outgoing_sections(alloc, response)?;
-    let grouped = grouped_sections(alloc, &outgoing)?;
-    send_groups(alloc, out, query, response, &grouped, limit)
-}
-
-/// Writes the response to a query, whose sections are these groups.
-fn send_groups(
-    alloc: Global,
-    out: &mut Vec<u8>,
-    query: &Query,
-    response: &Response<'_>,
-    grouped: &GroupedSections<'_>,
-    limit: u16,
-) -> Result<(), WriteError>
-    requires room { 512 ≤ limit }
-    requires groups { AreGroups (sections response.now) grouped.now }
-    ensures { Sends limit query.now (sections response.now) out.new.items result }
-{
-    let message = Message {
+    let head = ResponseHead {
         query,
         authoritative: response.authoritative,
         code: number_of(response.code),
         size: DATAGRAM_SIZE,
-        answers: grouped.answers.as_slice(),
-        authorities: grouped.authorities.as_slice(),
-        glue: grouped.glue.as_slice(),
-        additionals: grouped.additionals.as_slice(),
     };
-    write_response(alloc, out, &message, limit)
+    let mut writer = ResponseWriter::begin(alloc, out, head, Some(name), limit)?;
+    put_sections(alloc, &mut writer, out, response)?;
+    writer.finish(out)?;
+    Ok(())
 }
 
 /// Writes a response of a code alone, with the question, within a limit of octets, in place of the octets of `out`. Fails only for lack

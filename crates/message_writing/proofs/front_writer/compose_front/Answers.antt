@@ -18,8 +18,8 @@ returns-then-limit-least-clause-err c =
       c.opt_count-opts.ensures.value,
     )
 
-pub write_groups-requires : goal.write_groups-requires
-write_groups-requires c =
+pub write_groups-requires-clause-room : goal.write_groups-requires-clause-room
+write_groups-requires-clause-room c =
     omega (
       arith,
       c.if-limit-least.false,

@@ -12,31 +12,29 @@ loop-group-preserved c =
     let gs = c.args.groups.now in
     let i = c.loop-group.group-index in
     let g = c.group-item.result in
-    let put = subst (λ n. IsPutWithin n c.loop-group.out.items c.write_group.new.out.items (records_of g) true) c.loop-group.invariant.room
-    (subst (λ b. IsPutWithin c.loop-group.writing.room c.loop-group.out.items c.write_group.new.out.items (records_of g) b) c.if-not-branch.false
-    c.in_ok-write_group.ensures.ok) in
+    let put = subst (λ b. IsPutWithin c.args.setting.now.room c.loop-group.out.items c.write_group.new.out.items (records_of g) b) c.if-not-branch.false
+    c.in_ok-write_group.ensures.ok in
     record {
-      written = section_more gs i c.args.writing.now.room g c.args.out.now.items c.loop-group.out.items c.write_group.new.out.items c.loop-group-test.true
+      written = section_more gs i c.args.setting.now.room g c.args.out.now.items c.loop-group.out.items c.write_group.new.out.items c.loop-group-test.true
           c.group-item.is c.loop-group.invariant.written put;
       at = omega (arith, c.loop-group.invariant.at);
       counted = ap (λ n. c.loop-group.records + n) c.count_of.ensures
           ∙ count_more gs i c.loop-group.records g c.loop-group-test.true c.group-item.is c.loop-group.invariant.counted;
+      asked = c.in_ok-write_group.ensures.asked;
       within = put.1;
-      room = c.in_ok-write_group.ensures.room ∙ c.loop-group.invariant.room;
     }
 
 pub returns-then-not-branch-clause-ok : goal.returns-then-not-branch-clause-ok
 returns-then-not-branch-clause-ok c =
     let g = c.group-item.result in
-    front_cut c.args.groups.now c.loop-group.group-index c.args.writing.now.room _ g c.args.out.now.items c.loop-group.out.items
+    front_cut c.args.groups.now c.loop-group.group-index c.args.setting.now.room _ g c.args.out.now.items c.loop-group.out.items
     c.write_group.new.out.items c.loop-group-test.true c.group-item.is c.loop-group.invariant.at c.loop-group.invariant.written c.loop-group.invariant.counted
-    (subst (λ n. IsPutWithin n c.loop-group.out.items c.write_group.new.out.items (records_of g) false) c.loop-group.invariant.room
-    (subst (λ b. IsPutWithin c.loop-group.writing.room c.loop-group.out.items c.write_group.new.out.items (records_of g) b) c.if-not-branch.true
-    c.in_ok-write_group.ensures.ok))
+    (subst (λ b. IsPutWithin c.args.setting.now.room c.loop-group.out.items c.write_group.new.out.items (records_of g) b) c.if-not-branch.true
+    c.in_ok-write_group.ensures.ok)
 
 pub returns-clause-ok : goal.returns-clause-ok
 returns-clause-ok c =
-    front_whole c.args.groups.now c.loop-group.group-index c.args.writing.now.room _ c.args.out.now.items c.loop-group.out.items
+    front_whole c.args.groups.now c.loop-group.group-index c.args.setting.now.room _ c.args.out.now.items c.loop-group.out.items
     (omega arith) (omega (arith, c.loop-group-test.false)) c.loop-group.invariant.at c.loop-group.invariant.written c.loop-group.invariant.counted
 
 pub returns-in_err-write_group-clause-err : goal.returns-in_err-write_group-clause-err
@@ -52,9 +50,9 @@ overflow_add-records c =
     let g = c.group-item.result in
     let old = c.args.out.now.items in
     let new = c.write_group.new.out.items in
-    let put = subst (λ b. IsPutWithin c.loop-group.writing.room c.loop-group.out.items new (records_of g) b) c.if-not-branch.false
+    let put = subst (λ b. IsPutWithin c.args.setting.now.room c.loop-group.out.items new (records_of g) b) c.if-not-branch.false
     c.in_ok-write_group.ensures.ok in
-    let more = section_more gs i c.loop-group.writing.room g old c.loop-group.out.items new c.loop-group-test.true c.group-item.is
+    let more = section_more gs i c.args.setting.now.room g old c.loop-group.out.items new c.loop-group-test.true c.group-item.is
     c.loop-group.invariant.written put in
     omega (
       arith,

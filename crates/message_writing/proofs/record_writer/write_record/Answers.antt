@@ -1,4 +1,4 @@
-use Rattle.std.proofs.Common.{◌++◌, ◌-◌, length, ap, ◌∙◌, arith}
+use Rattle.std.proofs.Common.{◌++◌, ◌-◌, length, refl, ap, ◌∙◌, arith}
 use Rattle.zone_proto.specs.Data.{type_of}
 use Rattle.message_writing.specs.DataText.{data_text}
 use Rattle.message_writing.specs.KnownNames.{cut_text}
@@ -11,25 +11,25 @@ pub returns-clause-ok : goal.returns-clause-ok
 returns-clause-ok c =
     let r = c.args.r.now in
     let old = c.args.out.now.items in
-    let owner = c.cut_of-owner.result in
-    let cuts = c.data_cuts-cuts.result in
+    let owner = c.in_ok-owner.owner in
+    let cuts = c.in_ok-cuts.cuts in
     let w = writable _ r.rdata c.if-not-branch.false c.in_ok-is_writable.ensures.value in
-    let names = cuts_at _ old cuts.first cuts.second r.rdata c.as_slice-3.ensures.value c.data_cuts-cuts.ensures in
+    let names = cuts_at _ old cuts.first cuts.second r.rdata c.as_slice-2.ensures.value c.in_ok-cuts.ensures in
     record_written old c.push_cut.new.out.items c.push_fields.new.out.items c.push_short.new.out.items c.push_data.new.out.items c.put_short.new.out.items
     owner.labels owner.pointer r.name (type_of r.rdata) r.dns_class.0 c.args.ttl (length c.as_slice-at.result.now) _ (data_text cuts.first cuts.second r.rdata)
-    r.rdata (cut_at _ old owner.labels owner.pointer _ r.name c.as_slice.ensures.value c.labels.ensures.value c.cut_of-owner.ensures)
+    r.rdata (cut_at _ old owner.labels owner.pointer r.name r.name c.as_slice.ensures.value refl c.in_ok-owner.ensures)
     c.labels.ensures.valid (data_back old cuts.first cuts.second r.rdata w c.in_ok-push_data.ensures.sound names)
-    (c.in_ok-push_cut.ensures ∙ ap (λ n. old ++ cut_text owner.labels owner.pointer n) c.labels-2.ensures.value) c.in_ok-push_fields.ensures
+    (c.in_ok-push_cut.ensures ∙ ap (λ n. old ++ cut_text owner.labels owner.pointer n) c.labels.ensures.value) c.in_ok-push_fields.ensures
     (ap length c.as_slice-at.ensures.value) c.in_ok-push_short.ensures c.in_ok-push_data.ensures.text
-    (ap (λ s. length s - length c.as_slice-at.result.now - 2) c.as_slice-5.ensures.value) c.put_short.ensures
+    (ap (λ s. length s - length c.as_slice-at.result.now - 2) c.as_slice-3.ensures.value) c.put_short.ensures
 
 pub overflow_cast-count : goal.overflow_cast-count
 overflow_cast-count c =
     let r = c.args.r.now in
     let old = c.args.out.now.items in
-    let cuts = c.data_cuts-cuts.result in
+    let cuts = c.in_ok-cuts.cuts in
     let w = writable _ r.rdata c.if-not-branch.false c.in_ok-is_writable.ensures.value in
-    let names = cuts_at _ old cuts.first cuts.second r.rdata c.as_slice-3.ensures.value c.data_cuts-cuts.ensures in
+    let names = cuts_at _ old cuts.first cuts.second r.rdata c.as_slice-2.ensures.value c.in_ok-cuts.ensures in
     let most = count_short old c.push_fields.new.out.items c.push_short.new.out.items c.push_data.new.out.items cuts.first cuts.second r.rdata w
     c.in_ok-push_data.ensures.sound names c.in_ok-push_short.ensures c.in_ok-push_data.ensures.text in
-    omega (arith, most, ap length c.as_slice-5.ensures.value, ap length c.as_slice-at.ensures.value)
+    omega (arith, most, ap length c.as_slice-3.ensures.value, ap length c.as_slice-at.ensures.value)
