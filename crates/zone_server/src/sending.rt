@@ -10,7 +10,9 @@ use crate::groups::put_sections;
 use crate::transfer_records::soa_alone;
 use crate::transport::DATAGRAM_SIZE;
 use message_reading::Query;
-use message_writing::{Response as Message, ResponseHead, ResponseWriter, WriteError, write_response};
+use message_writing::{
+    Response as Message, ResponseHead, ResponseWriter, WriteError, write_response,
+};
 use std::alloc::{AllocError, Global};
 use zone_proto::{LowerName, RecordSet, ResponseCode};
 use zone_response::Response;
