@@ -1,5 +1,5 @@
 -- The sections of a response, put one behind the other
-use Rattle.std.proofs.Common.{◌≡◌, ℕ, ◌+◌, ◌≤◌, Bool, true, ◌&&◌, not, List, [], ◌++◌, length, refl, sym, ap, subst, ◌∙◌, append_assoc, arith}
+use Rattle.std.proofs.Common.{◌≡◌, ℕ, ◌+◌, Bool, ◌&&◌, not, List, [], ◌++◌, refl, sym, ap, subst, ◌∙◌, append_assoc}
 use Rattle.std.proofs.lemmas.List.{append-nil, length-append}
 use Rattle.message_writing.specs.declared.message_parts.Counts.{Counts}
 use Rattle.message_writing.specs.declared.error.WriteError.{WriteError}
@@ -8,8 +8,6 @@ use Rattle.message_writing.specs.declared.response.Response.{Response}
 use Rattle.message_writing.specs.Outcomes.{FailsToPutAny, IsBodyPut, IsHelpPut, IsSectionPut, records_in}
 use Rattle.message_writing.specs.Responses.{AreHelpful, IsSection, all_records, if_whole}
 use Rattle.message_writing.proofs.Failures.{groups_fail}
-use Rattle.message_writing.proofs.InOrder.{all_grow}
-use Rattle.message_writing.proofs.ResponseBack.{helpful_all, section_all}
 
 abbrev counted : ℕ → ℕ → ℕ → Bool → Counts
 counted a b c cut = record { answers = a; authorities = b; additionals = c; truncated = cut }
@@ -47,57 +45,24 @@ body_put room r o₀ o₁ o₂ o₃ o₄ first second third a b c d authorities 
 -- ---- a record of a section is one of the response
 
 pub answers_fail : (r : Response) (e : WriteError) → FailsToPutAny (all_records r.answers.now) e → FailsToPutAny (records_in r) e
-answers_fail r e h = groups_fail [] r.answers.now (r.authorities.now ++ (r.glue.now ++ r.additionals.now)) true e h
+answers_fail r e h = groups_fail [] r.answers.now (r.authorities.now ++ (r.glue.now ++ r.additionals.now)) e h
 
-pub authorities_fail : (r : Response) (gs : List Group) (whole : Bool) (e : WriteError) → gs ≡ if_whole whole r.authorities.now
-    → FailsToPutAny (all_records gs) e → FailsToPutAny (records_in r) e
-authorities_fail r gs whole e is h =
-    groups_fail r.answers.now r.authorities.now (r.glue.now ++ r.additionals.now) whole e (subst (λ s. FailsToPutAny (all_records s) e) is h)
+pub authorities_fail : (r : Response) (e : WriteError) → FailsToPutAny (all_records r.authorities.now) e → FailsToPutAny (records_in r) e
+authorities_fail r e h = groups_fail r.answers.now r.authorities.now (r.glue.now ++ r.additionals.now) e h
 
-pub glue_fails : (r : Response) (gs : List Group) (whole : Bool) (e : WriteError) → gs ≡ if_whole whole r.glue.now → FailsToPutAny (all_records gs) e
-    → FailsToPutAny (records_in r) e
-glue_fails r gs whole e is h =
+pub glue_fails : (r : Response) (e : WriteError) → FailsToPutAny (all_records r.glue.now) e → FailsToPutAny (records_in r) e
+glue_fails r e h =
     let a = r.answers.now in
     let b = r.authorities.now in
     subst (λ s. FailsToPutAny (all_records s) e) (append_assoc a b (r.glue.now ++ r.additionals.now))
-    (groups_fail (a ++ b) r.glue.now r.additionals.now whole e (subst (λ s. FailsToPutAny (all_records s) e) is h))
+    (groups_fail (a ++ b) r.glue.now r.additionals.now e h)
 
-pub additionals_fail : (r : Response) (gs : List Group) (whole : Bool) (e : WriteError) → gs ≡ if_whole whole r.additionals.now
-    → FailsToPutAny (all_records gs) e → FailsToPutAny (records_in r) e
-additionals_fail r gs whole e is h =
+pub additionals_fail : (r : Response) (e : WriteError) → FailsToPutAny (all_records r.additionals.now) e → FailsToPutAny (records_in r) e
+additionals_fail r e h =
     let a = r.answers.now in
     let b = r.authorities.now in
     let g = r.glue.now in
     let d = r.additionals.now in
     let same : (a ++ (b ++ g)) ++ (d ++ []) ≡ a ++ (b ++ (g ++ d)) =
     ap (λ s. (a ++ (b ++ g)) ++ s) (append-nil d) ∙ append_assoc a (b ++ g) d ∙ ap (λ s. a ++ s) (append_assoc b g d) in
-    subst (λ s. FailsToPutAny (all_records s) e) same
-    (groups_fail (a ++ (b ++ g)) d [] whole e (subst (λ s. FailsToPutAny (all_records s) e) is h))
-
--- ---- each record has an octet at least, so there are no more records than octets
-
-pub record AreSmall (least most : ℕ) (counts : Counts) : Type 0 where
-  pub grown : least ≤ most
-  pub answers : counts.answers ≤ most
-  pub authorities : counts.authorities ≤ most
-  pub additionals : counts.additionals ≤ most
-
-pub body_small : (room : ℕ) (r : Response) (start end : List ℕ) (counts : Counts) → IsBodyPut room r start end counts → AreSmall (length start) (length end) counts
-body_small room r start end counts put =
-    let b = put.is in
-    let first = all_grow start b.behind_answers put.answers
-    (section_all room start b.behind_answers r.answers.now put.answers b.answers_whole b.answers_are) in
-    let second = all_grow b.behind_answers b.behind_authorities put.authorities
-    (section_all room b.behind_answers b.behind_authorities (if_whole b.answers_whole r.authorities.now) put.authorities b.authorities_whole
-    b.authorities_are) in
-    let third = all_grow b.behind_authorities b.behind_glue b.glue
-    (section_all room b.behind_authorities b.behind_glue (if_whole (b.answers_whole && b.authorities_whole) r.glue.now) b.glue b.glue_whole b.glue_is) in
-    let fourth = all_grow b.behind_glue end b.helpful
-    (helpful_all room b.behind_glue end (if_whole (b.answers_whole && (b.authorities_whole && b.glue_whole)) r.additionals.now) b.helpful b.helpful_are) in
-    let all : length put.additionals ≡ length b.glue + length b.helpful = ap length b.additionals_are ∙ length-append b.glue b.helpful in
-    record {
-      grown = omega (arith, first, second, third, fourth);
-      answers = omega (arith, put.answers_counted, first, second, third, fourth);
-      authorities = omega (arith, put.authorities_counted, second, third, fourth);
-      additionals = omega (arith, put.additionals_counted, all, third, fourth);
-    }
+    subst (λ s. FailsToPutAny (all_records s) e) same (groups_fail (a ++ (b ++ g)) d [] e h)

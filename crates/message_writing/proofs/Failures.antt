@@ -1,5 +1,5 @@
 -- Why one of some records was not written
-use Rattle.std.proofs.Common.{◌≡◌, ℕ, ◌+◌, ◌<◌, Bool, true, false, List, [], ◌∷◌, ◌++◌, length, map, take, drop, sym, ap, subst, ◌∙◌, append_assoc}
+use Rattle.std.proofs.Common.{◌≡◌, ℕ, ◌+◌, ◌<◌, List, [], ◌∷◌, ◌++◌, length, map, take, drop, sym, ap, subst, ◌∙◌, append_assoc}
 use Rattle.std.proofs.lemmas.List.{append-nil, map-append, drop_more, take-append-drop}
 use Rattle.std.proofs.lemmas.Grind.{flat_map-append}
 use Rattle.std.specs.Prelude.{get_or}
@@ -9,7 +9,7 @@ use Rattle.message_writing.specs.declared.error.WriteError.TheVariants as errors
 use Rattle.message_writing.specs.declared.response.Group.{Group}
 use Rattle.message_writing.specs.declared.response.Response.{Response}
 use Rattle.message_writing.specs.Outcomes.{FailsToPut, FailsToPutAny, FailsToWrite, HasUnwritable, records_in}
-use Rattle.message_writing.specs.Responses.{all_records, records_of, if_whole, with_ttl}
+use Rattle.message_writing.specs.Responses.{all_records, records_of, with_ttl}
 
 unwritable_in : (xs rs ys : List Record) → HasUnwritable rs → HasUnwritable (xs ++ (rs ++ ys))
 unwritable_in xs rs ys h = record {
@@ -68,21 +68,12 @@ group_fails gs i g e inside is h =
     ap all_records split ∙ flat_map-append records_of (take i gs) (g ∷ drop (i + 1) gs) in
     subst (λ s. FailsToPutAny s e) (sym whole) (fails_in (all_records (take i gs)) (records_of g) (all_records (drop (i + 1) gs)) e h)
 
--- groups that are there where others are whole, of more groups
-pub groups_fail : (before gs after : List Group) (whole : Bool) (e : WriteError) → FailsToPutAny (all_records (if_whole whole gs)) e
-    → FailsToPutAny (all_records (before ++ (gs ++ after))) e
-groups_fail before gs after true e h =
+-- some of more groups
+pub groups_fail : (before gs after : List Group) (e : WriteError) → FailsToPutAny (all_records gs) e → FailsToPutAny (all_records (before ++ (gs ++ after))) e
+groups_fail before gs after e h =
     let split : all_records (before ++ (gs ++ after)) ≡ all_records before ++ (all_records gs ++ all_records after) =
     flat_map-append records_of before (gs ++ after) ∙ ap (λ s. all_records before ++ s) (flat_map-append records_of gs after) in
     subst (λ s. FailsToPutAny s e) (sym split) (fails_in (all_records before) (all_records gs) (all_records after) e h)
-groups_fail before gs after false errors.Unwritable h = absurd (none h.front h.unwritable h.rest h.stands)
-  where
-    none : (front : List Record) (r : Record) (rest : List Record) → [] ≡ front ++ r ∷ rest → ⊥
-    none [] r rest e = cc
-    none (x ∷ front) r rest e = cc
-groups_fail before gs after false errors.NoRoom h = absurd h
-groups_fail before gs after false errors.BadCode h = absurd h
-groups_fail before gs after false errors.Memory h = h
 
 pub body_fails : (limit : ℕ) (r : Response) (e : WriteError) → FailsToPutAny (records_in r) e → FailsToWrite limit r e
 body_fails limit r errors.Unwritable h = h

@@ -1,13 +1,13 @@
 -- Groups put one behind the other: those that are required, up to the first that goes over, and those that merely help
-use Rattle.std.proofs.Common.{◌≡◌, ℕ, ◌+◌, ◌<◌, ◌≤◌, true, false, List, [], ◌∷◌, ◌++◌, length, take, drop, refl, sym, ap, subst, ◌∙◌, append_assoc, arith, inl, inr}
-use Rattle.std.proofs.lemmas.List.{append-nil, length-append, length-map, take_more, drop_more, take_all, take-append-drop}
+use Rattle.std.proofs.Common.{◌≡◌, ℕ, ◌+◌, ◌<◌, true, List, [], ◌∷◌, ◌++◌, length, take, refl, sym, ap, subst, ◌∙◌, append_assoc, arith, inl, inr}
+use Rattle.std.proofs.lemmas.List.{append-nil, length-append, length-map, take_more}
 use Rattle.std.proofs.lemmas.Grind.{flat_map-append}
 use Rattle.std.specs.Prelude.{get_or}
 use Rattle.zone_proto.specs.declared.record.Record.{Record}
 use Rattle.message_writing.specs.StrictReading.{strict_record_of}
 use Rattle.message_writing.specs.declared.response.Group.{Group}
 use Rattle.message_writing.specs.Continuing.{AppendsAll}
-use Rattle.message_writing.specs.Outcomes.{IsPutWithin, IsSectionPut}
+use Rattle.message_writing.specs.Outcomes.{IsPutWithin}
 use Rattle.message_writing.specs.Responses.{GoesOver, AreHelpful, all_records, records_of, with_ttl}
 use Rattle.message_writing.proofs.InOrder.{then_all}
 
@@ -34,36 +34,6 @@ pub count_more : (gs : List Group) (i count : ℕ) (g : Group) → i < length gs
     → count + (length g.records.now + length g.signatures.now) ≡ length (all_records (take (i + 1) gs))
 count_more gs i count g inside is h =
     omega (arith, h, ap length (all_more gs i g inside is), length-append (all_records (take i gs)) (records_of g), group_length g)
-
-pub section_cut : (gs : List Group) (i room count : ℕ) (g : Group) (old mid new : List ℕ) → i < length gs → g ≡ get_or gs i g
-    → AppendsAll strict_record_of old mid (all_records (take i gs)) → count ≡ length (all_records (take i gs))
-    → IsPutWithin room mid new (records_of g) false → IsSectionPut room old new gs false count
-section_cut gs i room count g old mid new inside is h counted (same, over) =
-    let split : gs ≡ take i gs ++ g ∷ drop (i + 1) gs =
-    sym (take-append-drop i gs) ∙ ap (λ s. take i gs ++ s) (drop_more gs i g inside ∙ ap (λ x. x ∷ drop (i + 1) gs) (sym is)) in
-    record {
-      kept = all_records (take i gs);
-      is = (
-        take i gs,
-        g,
-        drop (i + 1) gs,
-        split,
-        refl,
-        subst (λ s. AppendsAll strict_record_of old s (all_records (take i gs))) (sym same) h,
-        subst (λ s. GoesOver room s (records_of g)) (sym same) over,
-      );
-      counted = counted;
-    }
-
-pub section_whole : (gs : List Group) (i room count : ℕ) (old new : List ℕ) → length gs ≤ i → AppendsAll strict_record_of old new (all_records (take i gs))
-    → count ≡ length (all_records (take i gs)) → IsSectionPut room old new gs true count
-section_whole gs i room count old new past h counted =
-    let all : take i gs ≡ gs = take_all i gs past in
-    record {
-      kept = all_records gs;
-      is = (refl, subst (λ s. AppendsAll strict_record_of old new (all_records s)) all h);
-      counted = counted ∙ ap (λ s. length (all_records s)) all;
-    }
 
 -- ---- what helps
 

@@ -2,6 +2,7 @@
 use Rattle.std.proofs.Common.{◌≡◌, ℕ, ◌+◌, ◌<◌, ◌≤◌, ◌&&◌, Bool, true, false, cond, List, [], ◌∷◌, ◌++◌, length, map, take, drop, refl, ap, subst, ◌∙◌, append_assoc, true≢false, sym}
 use Rattle.std.proofs.lemmas.List.{append-nil, drop_more, map-append, map_more, take_all, take-append-drop}
 use Rattle.std.proofs.lemmas.List.Concat.{flat_map-append}
+use Rattle.std.proofs.lemmas.List.Folds.{flat_map-map}
 use Rattle.std.specs.Prelude.{◌≢◌, filter, get_or}
 use Rattle.std.specs.List.{flat_map, list_all}
 use Rattle.zone_proto.specs.Sets.{RRset}
@@ -105,10 +106,6 @@ puts_sections s w₀ w₁ w₂ w₃ w₄ o₀ o₁ o₂ o₃ o₄ p₁ p₂ p₃
     )
 
 -- ---- why a set was not put
-
-flat_map-map : {A B : Type 0} (f : B → List Record) (g : A → B) (xs : List A) → flat_map f (map g xs) ≡ flat_map (λ x. f (g x)) xs
-flat_map-map f g [] = refl
-flat_map-map f g (x ∷ xs) = ap (λ s. f (g x) ++ s) (flat_map-map f g xs)
 
 one_fails : {A : Type 0} (f : A → List Record) (xs : List A) (i : ℕ) (x : A) (e : WriteError) → i < length xs → x ≡ get_or xs i x → FailsToPutAny (f x) e
     → FailsToPutAny (flat_map f xs) e

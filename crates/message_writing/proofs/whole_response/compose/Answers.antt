@@ -1,4 +1,4 @@
-use Rattle.std.proofs.Common.{true, refl, rules}
+use Rattle.std.proofs.Common.{refl, rules}
 use Rattle.message_writing.specs.Responses.{all_records}
 use Rattle.message_writing.proofs.BodyParts.{additionals_fail, answers_fail, authorities_fail, glue_fails}
 use Rattle.message_writing.proofs.Failures.{body_fails, unfit}
@@ -33,21 +33,21 @@ pub returns-in_err-put_groups-2-clause-err : goal.returns-in_err-put_groups-2-cl
 returns-in_err-put_groups-2-clause-err c =
     let r = c.args.response.now in
     let e = c.in_err-put_groups-2.field-0.0 in
-    let told = body_fails c.args.limit r e (authorities_fail r r.authorities.now true e refl c.in_err-put_groups-2.ensures.err) in
+    let told = body_fails c.args.limit r e (authorities_fail r e c.in_err-put_groups-2.ensures.err) in
     search (rules, told)
 
 pub returns-in_err-put_groups-3-clause-err : goal.returns-in_err-put_groups-3-clause-err
 returns-in_err-put_groups-3-clause-err c =
     let r = c.args.response.now in
     let e = c.in_err-put_groups-3.field-0.0 in
-    let told = body_fails c.args.limit r e (glue_fails r r.glue.now true e refl c.in_err-put_groups-3.ensures.err) in
+    let told = body_fails c.args.limit r e (glue_fails r e c.in_err-put_groups-3.ensures.err) in
     search (rules, told)
 
 pub returns-in_err-put_groups-4-clause-err : goal.returns-in_err-put_groups-4-clause-err
 returns-in_err-put_groups-4-clause-err c =
     let r = c.args.response.now in
     let e = c.in_err-put_groups-4.field-0.0 in
-    let told = body_fails c.args.limit r e (additionals_fail r r.additionals.now true e refl c.in_err-put_groups-4.ensures.err) in
+    let told = body_fails c.args.limit r e (additionals_fail r e c.in_err-put_groups-4.ensures.err) in
     search (rules, told)
 
 pub returns-in_err-put_groups-clause-room : goal.returns-in_err-put_groups-clause-room

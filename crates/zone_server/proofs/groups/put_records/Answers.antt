@@ -1,8 +1,10 @@
-use Rattle.std.proofs.Common.{sym, subst}
-use Rattle.std.proofs.lemmas.Result.{on_ok_weaker, if_err_weaker}
+use Rattle.std.proofs.Common.{subst}
+use Rattle.std.proofs.lemmas.Result.{on_ok_weaker, IfErr-weaker}
 use Rattle.zone_response.specs.Sections.{sent_set}
 use Rattle.message_writing.specs.declared.response.Group.{Group}
 use Rattle.message_writing.specs.Outcomes.{FailsToPutAny}
+use Rattle.message_writing.specs.Responses.{records_of}
+use Rattle.zone_server.specs.Answers.{records_sent}
 use Rattle.zone_server.proofs.GroupFacts.{group_sent, puts_one}
 use Rattle.zone_server.proofs.groups.put_records.Goals as goal
 
@@ -18,4 +20,5 @@ pub returns-clause-err : goal.returns-clause-err
 returns-clause-err c =
     let s = sent_set c.args.sent.now in
     let g : Group = record { records = c.records_out.result; signatures = c.args.signatures; ttl = c.args.sent.now.ttl } in
-    if_err_weaker c.put.result (λ e h. subst (λ rs. FailsToPutAny rs e) (group_sent g s c.records_out.ensures c.requires.signatures) h) c.put.ensures.err
+    IfErr-weaker c.put.result (FailsToPutAny (records_of g)) (FailsToPutAny (records_sent s))
+    (λ e h. subst (λ rs. FailsToPutAny rs e) (group_sent g s c.records_out.ensures c.requires.signatures) h) c.put.ensures.err

@@ -1,5 +1,7 @@
-use Rattle.std.proofs.Common.{refl, sym, ◌∙◌, arith, rules}
+use Rattle.std.proofs.Common.{List, [], refl, arith, rules}
+use Rattle.std.specs.Borrow.{Bor}
 use Rattle.zone_response.specs.Sections.{sections}
+use Rattle.message_writing.specs.declared.response.Group.{Group}
 use Rattle.message_writing.specs.declared.response.Response.{Response}
 use Rattle.zone_server.proofs.GroupFacts.{begin_fails, put_fails}
 use Rattle.zone_server.proofs.SentMessages.{sends_whole}
@@ -8,7 +10,7 @@ use Rattle.zone_server.proofs.sending.send_sections.Goals as goal
 pub returns : goal.returns
 returns c =
     let s = sections c.args.response.now in
-    let none = record { ref_ptr = (0, 0); now = [] } in
+    let none : Bor (List Group) = record { ref_ptr = (0, 0); now = [] } in
     let r : Response = record {
       query = c.args.query;
       authoritative = s.authoritative;
