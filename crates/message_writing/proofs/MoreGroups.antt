@@ -2,12 +2,16 @@
 use Rattle.std.proofs.Common.{◌≡◌, ℕ, ◌+◌, ◌-◌, ◌*◌, ◌<◌, ◌≤◌, Bool, true, false, List, [], ◌∷◌, ◌++◌, length, take, drop, Option, Some, None, refl, sym, ap, subst, ◌∙◌, append_assoc, arith}
 use Rattle.std.proofs.lemmas.List.{append-nil, length-append, take_all, take_more}
 use Rattle.std.specs.Borrow.{Bor}
+use Rattle.std.specs.declared.alloc.Global.{Global}
 use Rattle.std.specs.Prelude.{get_or, IfSome}
 use Rattle.zone_proto.specs.Names.{Name, IsName, wire_form, wire_length}
+use Rattle.message_reading.specs.declared.query.Query.{Query}
 use Rattle.message_reading.specs.declared.question.Question.{Question}
 use Rattle.message_reading.specs.Messages.{question_of}
 use Rattle.message_writing.specs.declared.error.WriteError.{WriteError}
 use Rattle.message_writing.specs.declared.error.WriteError.TheVariants as errors
+use Rattle.message_writing.specs.declared.group_writer.Setting.{Setting}
+use Rattle.message_writing.specs.declared.hints.Hints.{Hints}
 use Rattle.message_writing.specs.declared.message_parts.Counts.{Counts}
 use Rattle.message_writing.specs.declared.response.Group.{Group}
 use Rattle.message_writing.specs.declared.response.Response.{Response}
@@ -33,7 +37,7 @@ use Rattle.message_writing.proofs.WriterSteps.{IsCount, body_none, body_rest, bo
 -- ---- the OPT record by the head
 
 pub opts_by_head : (head : ResponseHead) (r : Response) → IsHeadOf head r → opt_length r ≡ opt_octets head.query.now.extension
-opts_by_head head r h = opt_is r.size r.code r.query.now.extension ∙ ap (λ q. opt_octets q.extension) h.query
+opts_by_head head r h = opt_is r.size r.code r.query.now.extension ∙ ap (λ (q : Query). opt_octets q.extension) h.query
 
 same_opts : (head : ResponseHead) (r x : Response) → IsHeadOf head r → IsHeadOf head x → opt_of x ≡ opt_of r
 same_opts head r x h k =
@@ -44,22 +48,26 @@ same_opts head r x h k =
 
 -- ---- begun
 
-pub begins : (limit : ℕ) (head : ResponseHead) (w : ResponseWriter) (blank start : List ℕ) → w.head ≡ head → length blank ≡ 12
-    → Appends question_of blank start head.query.now.question → opt_octets head.query.now.extension ≤ limit
-    → w.setting.room ≡ limit - opt_octets head.query.now.extension
-    → w.counts ≡ record { answers = 0; authorities = 0; additionals = 0; truncated = false }
-    → (r : Response) → IsHeadOf head r → HasNoGroups r → IsUnderway limit r w start
-begins limit head w blank start same twelve question fits room counts r h none =
+pub begins : (limit : ℕ) (head : ResponseHead) (alloc : Global) (question : Bor Question) (asked : Option (Bor Name)) (room : ℕ) (hints : Hints)
+    (blank start : List ℕ) → length blank ≡ 12 → Appends question_of blank start head.query.now.question
+    → opt_octets head.query.now.extension ≤ limit → room ≡ limit - opt_octets head.query.now.extension
+    → (r : Response) → IsHeadOf head r → HasNoGroups r → IsUnderway limit r (record {
+      head = head;
+      setting = record { alloc = alloc; question = question; asked = asked; room = room };
+      hints = hints;
+      counts = record { answers = 0; authorities = 0; additionals = 0; truncated = false };
+    }) start
+begins limit head alloc question asked room hints blank start twelve read fits room_is r h none =
     let opts = opts_by_head head r h in
     record {
-      head = subst (λ x. IsHeadOf x r) (sym same) h;
+      head = h;
       fits = omega (arith, opts, fits);
-      room = room ∙ ap (λ n. limit - n) (sym opts);
+      room = room_is ∙ ap (λ n. limit - n) (sym opts);
       header = blank;
       start = start;
       twelve = twelve;
-      question = subst (λ q. Appends question_of blank start q.question) (sym h.query) question;
-      body = subst (IsBodyPut (limit - opt_length r) r start start) (sym counts) (body_none (limit - opt_length r) r start none);
+      question = subst (λ (q : Query). Appends question_of blank start q.question) (sym h.query) read;
+      body = body_none (limit - opt_length r) r start none;
     }
 
 pub asked_begun : (asked : Option (Bor Name)) (blank start rest : List ℕ) (name : Name) → length blank ≡ 12
@@ -97,10 +105,10 @@ under_more : (s : Section) (gs : List Group) (limit : ℕ) (r : Response) (befor
     → IsBodyPut (limit - opt_length r) (with_groups s gs r) u.start new after.counts → IsUnderway limit (with_groups s gs r) after new
 under_more Answers gs limit r before after old new head room u body = record {
   head = record {
-    query = u.head.query ∙ ap (λ x. x.query.now) (sym head);
-    authoritative = u.head.authoritative ∙ ap (λ x. x.authoritative) (sym head);
-    code = u.head.code ∙ ap (λ x. x.code) (sym head);
-    size = u.head.size ∙ ap (λ x. x.size) (sym head);
+    query = u.head.query ∙ ap (λ (x : ResponseHead). x.query.now) (sym head);
+    authoritative = u.head.authoritative ∙ ap (λ (x : ResponseHead). x.authoritative) (sym head);
+    code = u.head.code ∙ ap (λ (x : ResponseHead). x.code) (sym head);
+    size = u.head.size ∙ ap (λ (x : ResponseHead). x.size) (sym head);
   };
   fits = u.fits;
   room = room ∙ u.room;
@@ -112,10 +120,10 @@ under_more Answers gs limit r before after old new head room u body = record {
 }
 under_more Authorities gs limit r before after old new head room u body = record {
   head = record {
-    query = u.head.query ∙ ap (λ x. x.query.now) (sym head);
-    authoritative = u.head.authoritative ∙ ap (λ x. x.authoritative) (sym head);
-    code = u.head.code ∙ ap (λ x. x.code) (sym head);
-    size = u.head.size ∙ ap (λ x. x.size) (sym head);
+    query = u.head.query ∙ ap (λ (x : ResponseHead). x.query.now) (sym head);
+    authoritative = u.head.authoritative ∙ ap (λ (x : ResponseHead). x.authoritative) (sym head);
+    code = u.head.code ∙ ap (λ (x : ResponseHead). x.code) (sym head);
+    size = u.head.size ∙ ap (λ (x : ResponseHead). x.size) (sym head);
   };
   fits = u.fits;
   room = room ∙ u.room;
@@ -127,10 +135,10 @@ under_more Authorities gs limit r before after old new head room u body = record
 }
 under_more Glue gs limit r before after old new head room u body = record {
   head = record {
-    query = u.head.query ∙ ap (λ x. x.query.now) (sym head);
-    authoritative = u.head.authoritative ∙ ap (λ x. x.authoritative) (sym head);
-    code = u.head.code ∙ ap (λ x. x.code) (sym head);
-    size = u.head.size ∙ ap (λ x. x.size) (sym head);
+    query = u.head.query ∙ ap (λ (x : ResponseHead). x.query.now) (sym head);
+    authoritative = u.head.authoritative ∙ ap (λ (x : ResponseHead). x.authoritative) (sym head);
+    code = u.head.code ∙ ap (λ (x : ResponseHead). x.code) (sym head);
+    size = u.head.size ∙ ap (λ (x : ResponseHead). x.size) (sym head);
   };
   fits = u.fits;
   room = room ∙ u.room;
@@ -142,10 +150,10 @@ under_more Glue gs limit r before after old new head room u body = record {
 }
 under_more Additionals gs limit r before after old new head room u body = record {
   head = record {
-    query = u.head.query ∙ ap (λ x. x.query.now) (sym head);
-    authoritative = u.head.authoritative ∙ ap (λ x. x.authoritative) (sym head);
-    code = u.head.code ∙ ap (λ x. x.code) (sym head);
-    size = u.head.size ∙ ap (λ x. x.size) (sym head);
+    query = u.head.query ∙ ap (λ (x : ResponseHead). x.query.now) (sym head);
+    authoritative = u.head.authoritative ∙ ap (λ (x : ResponseHead). x.authoritative) (sym head);
+    code = u.head.code ∙ ap (λ (x : ResponseHead). x.code) (sym head);
+    size = u.head.size ∙ ap (λ (x : ResponseHead). x.size) (sym head);
   };
   fits = u.fits;
   room = room ∙ u.room;
@@ -216,9 +224,9 @@ goes_on s g before after old new done n head setting counts put count within ask
     (record { answers = h.answers; authorities = h.authorities; additionals = h.additionals })) in
     record {
       long = omega (arith, h.long, more);
-      within = omega (arith, within, ap (λ x. x.room) setting);
-      small = omega (arith, h.small, ap (λ x. x.room) setting, ap (λ x. opt_octets x.query.now.extension) head);
-      asked = subst (λ x. IsAskedAt new x.asked) (sym setting) asked;
+      within = omega (arith, within, ap (λ (x : Setting). x.room) setting);
+      small = omega (arith, h.small, ap (λ (x : Setting). x.room) setting, ap (λ (x : ResponseHead). opt_octets x.query.now.extension) head);
+      asked = subst (λ (x : Setting). IsAskedAt new x.asked) (sym setting) asked;
       answers = counted.answers;
       authorities = counted.authorities;
       additionals = counted.additionals;
@@ -265,16 +273,11 @@ finishes limit r x w end all octets opts u going k opt eleven counted is =
     (omega (arith, put.additionals_counted, counted, ap length opts_are, length-append put.additionals (opt_of r)))
     (omega (arith, eleven, ap length opts_are, going.within, u.room, u.fits)) text
 
--- how many OPT records there are, by the head
-pub opts_small : (w : ResponseWriter) (x : Response) (opts : ℕ) → IsHeadOf w.head x → opts ≡ length (opt_of x)
-    → opt_octets w.head.query.now.extension ≡ 11 * opts
-opts_small w x opts k counted = sym (opts_by_head w.head x k) ∙ ap (λ n. 11 * n) (sym counted)
-
 -- ---- why a response was not begun
 
 pub begin_fails : (limit : ℕ) (head : ResponseHead) (r : Response) (e : WriteError) → IsHeadOf head r → FailsToBegin limit head e → FailsToWrite limit r e
 begin_fails limit head r errors.Unwritable h f = absurd f
-begin_fails limit head r errors.NoRoom h f = omega (arith, f, opts_by_head head r h, ap (λ q. wire_length q.question.name) h.query)
+begin_fails limit head r errors.NoRoom h f = omega (arith, f, opts_by_head head r h, ap (λ (q : Query). wire_length q.question.name) h.query)
 begin_fails limit head r errors.BadCode h f = subst (λ n. 4095 < n) (sym h.code) f
 begin_fails limit head r errors.Memory h f = tt
 

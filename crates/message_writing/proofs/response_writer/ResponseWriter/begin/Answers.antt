@@ -10,9 +10,10 @@ returns-clause-begun c =
     let head = c.args.head in
     let opts : 11 * c.opt_count-opts.result ≡ opt_octets head.query.now.extension =
     ap (λ n. 11 * n) c.opt_count-opts.ensures.value ∙ opts_by_head head c.without_groups.result c.without_groups.ensures.head in
-    begins c.args.limit head _ c.extend_from_slice.new.self.items c.push_question.new.out.items refl
+    begins c.args.limit head _ _ _ (c.from-most.result - 11 * c.opt_count-opts.result) _ c.extend_from_slice.new.self.items
+    c.push_question.new.out.items
     (blank_length c.clear.new.self.items c.extend_from_slice.new.self.items _ c.clear.ensures.items c.in_ok-extend_from_slice.ensures.items refl)
-    c.in_ok-push_question.ensures.read (omega (arith, opts, c.if-most-least.false, c.from-most.ensures)) (λ i. c.from-most.ensures i - opts i) refl
+    c.in_ok-push_question.ensures.read (omega (arith, opts, c.if-most-least.false, c.from-most.ensures)) (λ i. c.from-most.ensures i - opts i)
 
 pub returns-clause-going : goal.returns-clause-going
 returns-clause-going c =
