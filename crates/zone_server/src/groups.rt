@@ -28,23 +28,27 @@ pub(crate) fn put_sections(
     ensures going { OnOk result (CanGoOn writer.new out.new.items) }
     ensures err { IfErr result (FailsToPutAny (records_in (sections response.now))) }
 {
-    let (answers, authorities) = (&response.answers, &response.authorities);
-    put_sets(alloc, writer, out, Section::Answers, answers.as_slice())?;
+    put_sets(
+        alloc,
+        writer,
+        out,
+        Section::Answers,
+        response.answers.as_slice(),
+    )?;
     put_sets(
         alloc,
         writer,
         out,
         Section::Authorities,
-        authorities.as_slice(),
+        response.authorities.as_slice(),
     )?;
-    let (glue, additionals) = (&response.glue, &response.additionals);
-    put_sets(alloc, writer, out, Section::Glue, glue.as_slice())?;
+    put_sets(alloc, writer, out, Section::Glue, response.glue.as_slice())?;
     put_sets(
         alloc,
         writer,
         out,
         Section::Additionals,
-        additionals.as_slice(),
+        response.additionals.as_slice(),
     )?;
     Ok(())
 }

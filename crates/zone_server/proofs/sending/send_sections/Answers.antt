@@ -3,6 +3,7 @@ use Rattle.std.specs.Borrow.{Bor}
 use Rattle.zone_response.specs.Sections.{sections}
 use Rattle.message_writing.specs.declared.response.Group.{Group}
 use Rattle.message_writing.specs.declared.response.Response.{Response}
+use Rattle.message_writing.specs.declared.response.ResponseHead.{ResponseHead}
 use Rattle.zone_server.proofs.GroupFacts.{begin_fails, put_fails}
 use Rattle.zone_server.proofs.SentMessages.{sends_whole}
 use Rattle.zone_server.proofs.sending.send_sections.Goals as goal
@@ -30,7 +31,8 @@ returns c =
 pub returns-in_err-writer : goal.returns-in_err-writer
 returns-in_err-writer c =
     let s = sections c.args.response.now in
-    let told = begin_fails c.args.limit _ s c.in_err-writer.field-0.0 c.number_of.ensures
+    let head : ResponseHead = record { query = c.args.query; authoritative = s.authoritative; code = c.number_of.result; size = 1232 } in
+    let told = begin_fails c.args.limit head s c.in_err-writer.field-0.0 c.number_of.ensures
     (c.in_err-writer.ensures.room (omega (arith, c.requires))) c.in_err-writer.ensures.err in
     search (rules, told)
 
