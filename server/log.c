@@ -71,16 +71,18 @@ static size_t put_name(char *text, const uint8_t *query, size_t query_length, si
 void log_query(const struct sockaddr *client, uint32_t transport, const uint8_t *query, size_t query_length, size_t written,
                const nk_summary *summary) {
     if (!sample || query_length < 17 || atomic_fetch_add_explicit(&queries, 1, memory_order_relaxed) % sample) return;
-    char name[5 * 255 + 2], host[INET6_ADDRSTRLEN] = "", line[2048];
+    char name[5 * 255 + 2], host[INET6_ADDRSTRLEN] = "", line[4096];
     size_t behind, length_of_address;
-    put_name(name, query, query_length, &behind);
+    const char *zone = name + put_name(name, query, query_length, &behind), *quote = summary->origin_labels ? "\"" : "";
+    for (uint32_t labels = summary->origin_labels; zone > name && (zone[-1] != '.' || --labels); zone--) {}
     unsigned type = behind + 2 <= query_length ? query[behind] << 8 | query[behind + 1] : 0;
     inet_ntop(client->sa_family, client_octets(client, &length_of_address), host, sizeof host);
     struct timespec now;
     clock_gettime(CLOCK_REALTIME, &now);
     int length = snprintf(line, sizeof line,
-                          "{\"time\":%lld.%03ld,\"client\":\"%s\",\"transport\":\"%s\",\"name\":\"%s\",\"type\":%u,\"kind\":\"%s\",\"rcode\":%u,\"size\":%zu,\"truncated\":%s,\"cookie\":\"%s\"}\n",
-                          (long long)now.tv_sec, now.tv_nsec / 1000000, host, transport == NK_TCP ? "tcp" : "udp", name, type, kind_names[summary->kind],
+                          "{\"time\":%lld.%03ld,\"client\":\"%s\",\"transport\":\"%s\",\"name\":\"%s\",\"type\":%u,\"zone\":%s%s%s,\"kind\":\"%s\",\"rcode\":%u,\"size\":%zu,\"truncated\":%s,\"cookie\":\"%s\"}\n",
+                          (long long)now.tv_sec, now.tv_nsec / 1000000, host, transport == NK_TCP ? "tcp" : "udp", name, type,
+                          quote, !*quote ? "null" : *zone ? zone : ".", quote, kind_names[summary->kind],
                           summary->code, written, summary->truncated ? "true" : "false", cookie_names[summary->cookie]);
     if (write(queries_to, line, length) < 0) return;
 }

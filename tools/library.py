@@ -85,7 +85,7 @@ fn main(rt: HostRuntime) -> std::process::ExitCode {{
     let (text, mut room, mut written, mut serial) = ([0u8; 8], [0u8; 8], 0usize, 0u32);
     let settings = ServerSettings {{ nsid: &text, secrets: &text, cookies_required: 0 }};
     let message = ClientMessage {{ octets: &text, address: &text, moment: 0, limit: 512, transport: 0 }};
-    let mut summary = SummaryNumbers {{ code: 0, kind: 0, truncated: 0, cookie: 0 }};
+    let mut summary = SummaryNumbers {{ code: 0, kind: 0, truncated: 0, cookie: 0, origin_labels: 0 }};
     let mut code = 0u32;
 {calls}    std::process::ExitCode::from(code.min(9) as u8)
 }}

@@ -120,13 +120,13 @@ static int cookies(void) {
     size_t written = 9, length = 0;
     uint8_t cookie[24] = {1, 2, 3, 4, 5, 6, 7, 8}, first[24];
     memset(room, 85, sizeof room);
-    summary = (nk_summary){9, 9, 9, 9};
+    summary = (nk_summary){9, 9, 9, 9, 9};
     IS(answer_client(&zones, NK_UDP, 0, 1000, cookie, &length, 1232, &written) == NK_CLOSED && !written && is_untouched() && summary.kind == 9);
     IS(nk_zones_new(&zones) == NK_DONE && load(&zones, 0, ORIGIN, text, &written) == NK_DONE);
     memset(room, 85, sizeof room);
     IS(answer_client(&zones, 2, 0, 1000, cookie, &length, 1232, &written) == NK_BAD_TRANSPORT && !written && is_untouched() && summary.cookie == 9);
     IS(answer_client(&zones, NK_UDP, 0, 1000, cookie, &length, 20, &written) == NK_NO_ROOM && written > 20 && is_untouched() && summary.kind == NK_ANSWER);
-    IS(answer_client(&zones, NK_UDP, 1, 1000, cookie, &length, 1232, &written) == NK_DONE && summary.code == 0 && summary.cookie == NK_COOKIE_ABSENT && !length);
+    IS(answer_client(&zones, NK_UDP, 1, 1000, cookie, &length, 1232, &written) == NK_DONE && summary.code == 0 && summary.cookie == NK_COOKIE_ABSENT && !length && summary.origin_labels);
     IS(!memcmp(room + written - 6, "\0\3\0\2ns", 6));
     length = 7;
     IS(answer_client(&zones, NK_UDP, 0, 1000, cookie, &length, 1232, &written) == NK_DONE && summary.code == 1 && summary.cookie == NK_COOKIE_MALFORMED && written == 12);
@@ -140,7 +140,7 @@ static int cookies(void) {
     IS(answer_client(&zones, NK_UDP, 0, 4700, cookie, &length, 1232, &written) == NK_DONE && summary.code == 0 && summary.cookie == NK_COOKIE_UNKNOWN && !summary.truncated);
     length = 8;
     IS(answer_client(&zones, NK_TCP, 1, 4700, cookie, &length, sizeof room, &written) == NK_DONE && summary.code == 0 && summary.cookie == NK_COOKIE_UNKNOWN && length == 24);
-    IS(drop(&zones, ORIGIN) == NK_DONE && answer_client(&zones, NK_TCP, 0, 4700, cookie, &length, sizeof room, &written) == NK_DONE && summary.kind == NK_REFUSED);
+    IS(drop(&zones, ORIGIN) == NK_DONE && answer_client(&zones, NK_TCP, 0, 4700, cookie, &length, sizeof room, &written) == NK_DONE && summary.kind == NK_REFUSED && !summary.origin_labels);
     nk_zones_free(&zones);
     return 0;
 }

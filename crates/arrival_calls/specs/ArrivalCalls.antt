@@ -65,12 +65,13 @@ bit holds = if holds then 1 else 0
 
 -- a summary in numbers
 abbrev pub numbers_of : Option Summary → SummaryNumbers
-numbers_of None = record { code = 0; kind = 0; truncated = 0; cookie = 0 }
+numbers_of None = record { code = 0; kind = 0; truncated = 0; cookie = 0; origin_labels = 0 }
 numbers_of (Some s) = record {
   code = s.code;
   kind = kind_number s.kind;
   truncated = bit s.truncated;
   cookie = cookie_number s.cookie;
+  origin_labels = s.origin_labels;
 }
 
 -- ---- calls
@@ -78,11 +79,11 @@ numbers_of (Some s) = record {
 -- The answer to a message: a response, with a summary of it; or none, or no memory was found, and then the summary stays as it was.
 abbrev pub IsArrivalAnswered : List Zone → ServerOptions → Arrival → SummaryNumbers → Outcome → ℕ → List ℕ → List ℕ → SummaryNumbers → Type 0
 IsArrivalAnswered zs o a old Ignored written before after new =
-    IsAnswerToArrival (map served_zone zs) o a [] × IsUntouched written before after × (new ≡ old)
+    (labels : ℕ) × IsAnswerToArrival (map served_zone zs) o a labels [] × IsUntouched written before after × (new ≡ old)
 IsArrivalAnswered zs o a old NoMemory written before after new = IsUntouched written before after × (new ≡ old)
 IsArrivalAnswered zs o a old outcome written before after new =
-    (octets : List ℕ) × IsAnswerToArrival (map served_zone zs) o a octets × (octets ≢ [])
-    × IsGiven octets outcome written before after × (new ≡ numbers_of (summary_of (cookie_state o a) octets))
+    (labels : ℕ) × (octets : List ℕ) × IsAnswerToArrival (map served_zone zs) o a labels octets × (octets ≢ [])
+    × IsGiven octets outcome written before after × (new ≡ numbers_of (summary_of (cookie_state o a) labels octets))
 
 -- the same of a handle, which may hold no zones
 abbrev pub AnswersArrivalHeld : ServerOptions → Arrival → Option ZoneDatabase → SummaryNumbers → Outcome → ℕ → List ℕ → List ℕ → SummaryNumbers → Type 0

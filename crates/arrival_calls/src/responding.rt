@@ -21,8 +21,7 @@ impl Responder for FromDatabase<'_> {
         message: &[u8],
         transport: Transport,
         out: &mut Vec<u8>,
-    ) -> Result<(), AllocError> {
-        let _ = self.0.answer(alloc, message, transport, out)?;
-        Ok(())
+    ) -> Result<usize, AllocError> {
+        self.0.answer_from(alloc, message, transport, out)
     }
 }

@@ -16,6 +16,9 @@ pub struct SummaryNumbers {
     pub truncated: u32,
     /// The number of what the query told by a cookie, in the order of `CookieState`.
     pub cookie: u32,
+    /// How many labels the origin of the zone has that answers, that of the root among them: so many at the end of the question's name are
+    /// the origin. 0 where no zone answers.
+    pub origin_labels: u32,
 }
 
 /// A summary in numbers; zeros for none.
@@ -28,12 +31,14 @@ pub(crate) fn numbers_of(summary: Option<Summary>) -> SummaryNumbers
             kind: 0,
             truncated: 0,
             cookie: 0,
+            origin_labels: 0,
         },
         Some(summary) => SummaryNumbers {
             code: u32::from(summary.code),
             kind: kind_number(summary.kind),
             truncated: bit(summary.truncated),
             cookie: cookie_number(summary.cookie),
+            origin_labels: summary.origin_labels as u32,
         },
     }
 }

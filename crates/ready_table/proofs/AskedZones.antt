@@ -10,7 +10,7 @@ use Rattle.message_reading.specs.declared.error.ReadError.{ReadError}
 use Rattle.message_reading.specs.Queries.{query_of}
 use Rattle.zone_response.specs.Queries.{Zone}
 use Rattle.zone_server.specs.declared.transport.Transport.{Transport}
-use Rattle.zone_server.specs.Answers.{asked_of, IsAnswer, IsAnswerTo, IsResponseTo, Says}
+use Rattle.zone_server.specs.Answers.{asked_of, IsAnswer, IsAnswerTo, IsResponseFrom, IsResponseTo, Says}
 use Rattle.zone_server.specs.Limits.{limit_for}
 use Rattle.zone_server.specs.ServedZones.{is_parents, may_answer, may_answer_for, IsAnswering, IsNearestIfAny}
 use Rattle.zone_server.proofs.AnsweringZones.{name_answers, of_other_type}
@@ -45,13 +45,16 @@ answer_ready zs z origin t message q octets one at read inside h =
     own_answer z (limit_for t q.extension) q octets (subst (λ n. IsInside n q) (sym at) inside)
     (subst (λ ys. IsResponseTo ys (limit_for t q.extension) q octets) one (subst (λ (o : Result Query ReadError). IsAnswerTo zs t o octets) read h))
 
--- a ready answer of the nearest zone is the answer
+-- a ready answer of the nearest zone is the answer, from a zone whose origin has so many labels
 pub ready_answers_query : (zs : List Zone) (z : Zone) (limit : ℕ) (q : Query) (octets : List ℕ) → (q.question.query_type.0 == DS) ≡ false
-    → IsNearestIfAny (may_answer_for false (lower q.question.name)) zs (Some z) → IsReady z limit q octets → IsResponseTo zs limit q octets
+    → IsNearestIfAny (may_answer_for false (lower q.question.name)) zs (Some z) → IsReady z limit q octets → IsResponseFrom zs limit q (length z.origin + 1) octets
 ready_answers_query zs z limit q octets no_ds nearest h = record {
-  zone = Some z;
-  said = h.said;
-  answering = name_answers zs (lower q.question.name) q.question.query_type.0 (of_other_type zs (lower q.question.name) q.question.query_type.0 no_ds) (Some z) nearest;
-  says = h.says;
-  goes_out = h.goes_out;
+  response = record {
+    zone = Some z;
+    said = h.said;
+    answering = name_answers zs (lower q.question.name) q.question.query_type.0 (of_other_type zs (lower q.question.name) q.question.query_type.0 no_ds) (Some z) nearest;
+    says = h.says;
+    goes_out = h.goes_out;
+  };
+  labels_of = refl;
 }

@@ -3,3 +3,4 @@ pub mod BadCookies
 pub mod Completing
 pub mod ServerAnswers
 pub mod Summaries
+pub mod Telling

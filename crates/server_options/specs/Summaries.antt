@@ -28,12 +28,13 @@ kind_by header code =
     else if nat_lt 0 header.authorities && not header.authoritative then Referral
     else NoData
 
--- what a response was, to a query that told this by a cookie; none without a header
-abbrev pub summary_of : CookieState → List ℕ → Option Summary
-summary_of cookie octets = header_of octets >>= λ h. Some (record {
+-- what a response was, from a zone whose origin has so many labels, to a query that told this by a cookie; none without a header
+abbrev pub summary_of : CookieState → ℕ → List ℕ → Option Summary
+summary_of cookie labels octets = header_of octets >>= λ h. Some (record {
   code = code_with h.0 (opt_of octets);
   kind = kind_by h.0 (code_with h.0 (opt_of octets));
   size = length octets;
   truncated = h.0.truncated;
   cookie = cookie;
+  origin_labels = labels;
 })

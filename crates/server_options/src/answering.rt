@@ -1,8 +1,8 @@
 //! Messages answered with options.
-ghost use Rattle.std.specs.Prelude.{◌≡◌, IfOk, OnOk, option_map};
+ghost use Rattle.std.specs.Prelude.{◌≡◌, IfOk, option_map};
 ghost use Rattle.server_options.specs.Asking.{limit_by, state_of};
 ghost use Rattle.server_options.specs.ServerAnswers.{AnswersByState, AnswersOptions, IsAnswerToArrival, cookie_state};
-ghost use Rattle.server_options.specs.Summaries.{summary_of};
+ghost use Rattle.server_options.specs.Telling.{TellsAnswer};
 
 use crate::arrival::{Arrival, ServerOptions};
 use crate::asking::{
@@ -37,16 +37,14 @@ pub fn answer_arrival<R: Responder>(
     arrival: &Arrival<'_>,
     out: &mut Vec<u8>,
 ) -> Result<Option<Summary>, AllocError>
-    ensures answer { OnOk result
-        (IsAnswerToArrival (R.zones responder.now) options.now arrival.now out.new.items) }
-    ensures summary { IfOk result (λ summary. summary
-        ≡ summary_of (cookie_state options.now arrival.now) out.new.items) }
+    ensures { IfOk result (λ summary. TellsAnswer (R.zones responder.now) options.now arrival.now
+        summary out.new.items) }
 {
-    let cookie = answer_opt(alloc, responder, options, arrival, out)?;
-    Ok(summary_of(cookie, out.as_slice()))
+    let (cookie, labels) = answer_opt(alloc, responder, options, arrival, out)?;
+    Ok(summary_of(cookie, labels, out.as_slice()))
 }
 
-/// The same, and what the cookie tells.
+/// The same: what the cookie tells, and how many labels the origin of the zone has that answers.
 #[tactic(auto, using(crate::proofs::Steps::answers_opt, crate::proofs::Steps::told_opt))]
 fn answer_opt<R: Responder>(
     alloc: Global,
@@ -54,15 +52,15 @@ fn answer_opt<R: Responder>(
     options: &ServerOptions<'_>,
     arrival: &Arrival<'_>,
     out: &mut Vec<u8>,
-) -> Result<CookieState, AllocError>
-    ensures answer { OnOk result
-        (IsAnswerToArrival (R.zones responder.now) options.now arrival.now out.new.items) }
-    ensures cookie { IfOk result (λ state. state ≡ cookie_state options.now arrival.now) }
+) -> Result<(CookieState, usize), AllocError>
+    ensures answer { IfOk result (λ told. IsAnswerToArrival (R.zones responder.now) options.now
+        arrival.now told.1 out.new.items) }
+    ensures cookie { IfOk result (λ told. told.0 ≡ cookie_state options.now arrival.now) }
 {
     match opt_of(arrival.message) {
         None => {
-            responder.answer(alloc, arrival.message, arrival.transport, out)?;
-            Ok(CookieState::Absent)
+            let labels = responder.answer(alloc, arrival.message, arrival.transport, out)?;
+            Ok((CookieState::Absent, labels))
         }
         Some((frame, data)) => {
             let cookie = cookie_in(options.secrets, data);
@@ -93,19 +91,19 @@ fn answer_options<R: Responder>(
     nsid: &[u8],
     size: u16,
     out: &mut Vec<u8>,
-) -> Result<CookieState, AllocError>
-    ensures answer { OnOk result
-        (AnswersOptions (R.zones responder.now) arrival.now required
-        (option_map (λ x. (x.0, x.1.now)) cookie.entry) nsid.now size out.new.items) }
-    ensures cookie { IfOk result (λ state. state ≡ state_of
+) -> Result<(CookieState, usize), AllocError>
+    ensures answer { IfOk result (λ told. AnswersOptions (R.zones responder.now) arrival.now
+        required (option_map (λ x. (x.0, x.1.now)) cookie.entry) nsid.now size told.1
+        out.new.items) }
+    ensures cookie { IfOk result (λ told. told.0 ≡ state_of
         (option_map (λ x. (x.0, x.1.now)) cookie.entry) arrival.now) }
 {
     let state = state_of(cookie, arrival);
     let limit = limit_by(arrival.transport, size);
-    answer_by_state(
+    let labels = answer_by_state(
         alloc, responder, arrival, required, state, cookie, nsid, limit, out,
     )?;
-    Ok(state)
+    Ok((state, labels))
 }
 
 /// The same for what its cookie tells, within a limit.
@@ -120,10 +118,10 @@ fn answer_by_state<R: Responder>(
     nsid: &[u8],
     limit: u16,
     out: &mut Vec<u8>,
-) -> Result<(), AllocError>
-    ensures { OnOk result
-        (AnswersByState (R.zones responder.now) arrival.now required state
-        (option_map (λ x. (x.0, x.1.now)) cookie.entry) nsid.now limit out.new.items) }
+) -> Result<usize, AllocError>
+    ensures { IfOk result (λ labels. AnswersByState (R.zones responder.now) arrival.now required
+        state (option_map (λ x. (x.0, x.1.now)) cookie.entry) nsid.now limit labels
+        out.new.items) }
 {
     match state {
         CookieState::Malformed => {
@@ -133,8 +131,9 @@ fn answer_by_state<R: Responder>(
         CookieState::Absent | CookieState::Unknown | CookieState::Known => {
             let way = lowered(arrival.transport, limit, reserved(state, nsid));
             let again = comes_again(required, arrival.transport, state);
-            answer_or_send_back(alloc, responder, arrival.message, way, again, out)?;
-            complete(alloc, limit, cookie, nsid, arrival, out)
+            let labels = answer_or_send_back(alloc, responder, arrival.message, way, again, out)?;
+            complete(alloc, limit, cookie, nsid, arrival, out)?;
+            Ok(labels)
         }
     }
 }

@@ -41,11 +41,15 @@ pub struct Summary {
     pub truncated: bool,
     /// What the query told by a cookie.
     pub cookie: CookieState,
+    /// How many labels the origin of the zone has that answers, that of the root among them: so many at the end of the question's name are
+    /// the origin. 0 where no zone answers.
+    pub origin_labels: usize,
 }
 
-/// What a response was, to a query that told this by a cookie; none for fewer octets than a header has. Doesn't allocate.
-pub fn summary_of(cookie: CookieState, octets: &[u8]) -> Option<Summary>
-    ensures { result ≡ summary_of cookie octets.now }
+/// What a response was, from a zone whose origin has so many labels, to a query that told this by a cookie; none for fewer octets than a
+/// header has. Doesn't allocate.
+pub fn summary_of(cookie: CookieState, origin_labels: usize, octets: &[u8]) -> Option<Summary>
+    ensures { result ≡ summary_of cookie origin_labels octets.now }
 {
     let (header, _) = read_header(octets)?;
     let code = code_in(header, octets);
@@ -55,6 +59,7 @@ pub fn summary_of(cookie: CookieState, octets: &[u8]) -> Option<Summary>
         size: octets.len(),
         truncated: header.truncated,
         cookie,
+        origin_labels,
     })
 }
 

@@ -9,7 +9,7 @@ use std::collections::BTreeMap;
 use std::sync::Arc;
 use zone_origins::nearest;
 use zone_proto::{LowerName, RecordType};
-use zone_server::{Answered, Transport, answer_read};
+use zone_server::{Answered, Transport, answer_read_from};
 
 /// The zones that a server has, of each origin one. Several databases may share a zone, which none of them changes.
 #[derive(Drop)]
@@ -22,11 +22,11 @@ pub struct ZoneDatabase {
 }
 
 impl ZoneDatabase {
-    ghost use Rattle.std.specs.Prelude.{◌≡◌, ◌≢◌, [], IfOk, IsTrue, Ok, OnOk, OnErr, map, option_copied, option_map};
+    ghost use Rattle.std.specs.Prelude.{◌≡◌, ◌≢◌, [], IfOk, IfSome, IsTrue, Ok, OnOk, OnErr, map, option_copied, option_map};
     ghost use Rattle.std.specs.Arc.{arc_value};
     ghost use Rattle.std.specs.List.{find};
     ghost use Rattle.message_reading.specs.Queries.{query_of, ReadsQuery};
-    ghost use Rattle.zone_server.specs.Answers.{IsAnswer, IsResponseTo, SaysWhether};
+    ghost use Rattle.zone_server.specs.Answers.{IsAnswer, IsAnswerFrom, IsResponseFrom, SaysWhether};
     ghost use Rattle.zone_server.specs.Limits.{limit_for};
     ghost use Rattle.zone_database.specs.Databases.{begins_at, has_zone, with_zone, without, zones_in};
     ghost use Rattle.zone_database.specs.Zones.{served_zone};
@@ -144,31 +144,52 @@ impl ZoneDatabase {
             out.new.items) }
         ensures told { IfOk result (λ told. SaysWhether told out.new.items) }
     {
-        let read = read_query(alloc, message);
-        if self.prepared && self.put_ready(message, &read, transport, out)? {
-            return Ok(Answered::Response);
+        self.answer_from(alloc, message, transport, out)?;
+        if out.is_empty() {
+            Ok(Answered::Nothing)
+        } else {
+            Ok(Answered::Response)
         }
-        answer_read(alloc, self, read, transport, out)
     }
 
-    /// Answers a message by an answer that is kept, and says whether there is one. `read` is what is read of it. Fails only for lack of
-    /// memory.
+    /// Answers a message in the same way, and gives how many labels the origin of the zone has that answers, that of the root among them: so
+    /// many at the end of the question's name are the origin. It is 0 where no zone answers. Fails only for lack of memory.
+    pub fn answer_from(
+        &self,
+        alloc: Global,
+        message: &[u8],
+        transport: Transport,
+        out: &mut Vec<u8>,
+    ) -> Result<usize, AllocError>
+        ensures { IfOk result (λ labels. IsAnswerFrom (map served_zone (zones_in self.now))
+            transport message.now labels out.new.items) }
+    {
+        let read = read_query(alloc, message);
+        if self.prepared {
+            if let Some(labels) = self.put_ready(message, &read, transport, out)? {
+                return Ok(labels);
+            }
+        }
+        answer_read_from(alloc, self, read, transport, out)
+    }
+
+    /// Answers a message by an answer that is kept, if there is one, and gives how many labels the origin of its zone has. `read` is what is
+    /// read of the message. Fails only for lack of memory.
     fn put_ready(
         &self,
         message: &[u8],
         read: &Result<Query, ReadError>,
         transport: Transport,
         out: &mut Vec<u8>,
-    ) -> Result<bool, AllocError>
+    ) -> Result<Option<usize>, AllocError>
         requires { ReadsQuery read.now (query_of message.now) }
-        ensures answer { IfOk result (λ found. IsTrue found
-            → IsAnswer (map served_zone (zones_in self.now)) transport message.now
-            out.new.items) }
-        ensures octets { IfOk result (λ found. IsTrue found → out.new.items ≢ []) }
+        ensures { IfOk result (λ found. IfSome found (λ labels. IsAnswerFrom
+            (map served_zone (zones_in self.now)) transport message.now labels
+            out.new.items)) }
     {
         match read {
             Ok(query) => self.put_ready_to(message, query, transport, out),
-            Err(_) => Ok(false),
+            Err(_) => Ok(None),
         }
     }
 
@@ -180,20 +201,26 @@ impl ZoneDatabase {
         query: &Query,
         transport: Transport,
         out: &mut Vec<u8>,
-    ) -> Result<bool, AllocError>
-        ensures { IfOk result (λ found. IsTrue found → query_of message.now ≡ Ok query.now
-            → IsResponseTo (map served_zone (zones_in self.now))
-            (limit_for transport query.now.extension) query.now out.new.items) }
+    ) -> Result<Option<usize>, AllocError>
+        ensures { IfOk result (λ found. IfSome found (λ labels. query_of message.now ≡ Ok query.now
+            → IsResponseFrom (map served_zone (zones_in self.now))
+            (limit_for transport query.now.extension) query.now labels out.new.items)) }
     {
         if query.question.query_type == RecordType::DS {
-            return Ok(false);
+            return Ok(None);
         }
         let Ok(name) = LowerName::new(&query.question.name) else {
             return Err(AllocError);
         };
         match nearest(&self.zones, &name)? {
-            Some((_, stored)) => stored.put_ready(message, query, transport, out),
-            None => Ok(false),
+            Some((origin, stored)) => {
+                if stored.put_ready(message, query, transport, out)? {
+                    Ok(Some(origin.num_labels() + 1))
+                } else {
+                    Ok(None)
+                }
+            }
+            None => Ok(None),
         }
     }
 }

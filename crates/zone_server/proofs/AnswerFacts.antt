@@ -15,7 +15,7 @@ use Rattle.zone_response.specs.Sections.{Sections}
 use Rattle.zone_server.specs.declared.answering.Answered.{Answered}
 use Rattle.zone_server.specs.declared.transport.Transport.{Transport}
 use Rattle.zone_server.specs.declared.transport.Transport.TheVariants.{Tcp, Udp}
-use Rattle.zone_server.specs.Answers.{asked_of, GoesOut, IsAnswer, IsAnswerTo, IsResponseTo, IsSent}
+use Rattle.zone_server.specs.Answers.{asked_of, origin_labels, GoesOut, IsAnswer, IsAnswerFrom, IsAnswerFromTo, IsAnswerTo, IsResponseFrom, IsResponseTo, IsSent}
 use Rattle.zone_server.specs.Limits.{limit_for}
 use Rattle.zone_server.specs.ServedZones.{IsAnswering}
 
@@ -67,18 +67,26 @@ pub response_short : (zs : List Zone) (t : Transport) (e : Option Extension) (q 
 response_short zs t e q octets h = gone_short t e q h.said octets h.goes_out
 
 -- what a zone says is sent
-pub said_goes_out : (zs : List Zone) (limit : ℕ) (q : ReadQuery) (z : Zone) (s : Sections) (octets : List ℕ) (r : Result (Unit {0}) AllocError)
-    → IsAnswering zs (asked_of q).name (asked_of q).record_type (Some z) → IsResponse z (asked_of q) s → OnOk r (GoesOut limit q s octets)
-    → OnOk r (IsResponseTo zs limit q octets)
-said_goes_out zs limit q z s octets (Ok done) answering says h = record { zone = Some z; said = s; answering = answering; says = says; goes_out = h }
-said_goes_out zs limit q z s octets (Err e) answering says h = tt
+pub said_from : (zs : List Zone) (limit : ℕ) (q : ReadQuery) (z : Zone) (s : Sections) (labels : ℕ) (octets : List ℕ)
+    → IsAnswering zs (asked_of q).name (asked_of q).record_type (Some z) → IsResponse z (asked_of q) s → labels ≡ origin_labels (Some z) → GoesOut limit q s octets
+    → IsResponseFrom zs limit q labels octets
+said_from zs limit q z s labels octets answering says e h = record {
+  response = record { zone = Some z; said = s; answering = answering; says = says; goes_out = h };
+  labels_of = e;
+}
 
 -- where no zone answers, the server refuses
-pub refused_goes_out : (zs : List Zone) (limit : ℕ) (q : ReadQuery) (octets : List ℕ) (r : Result (Unit {0}) AllocError)
-    → IsAnswering zs (asked_of q).name (asked_of q).record_type None → OnOk r (IsSent limit q (bare Refused) octets)
-    → OnOk r (IsResponseTo zs limit q octets)
-refused_goes_out zs limit q octets (Ok done) answering h = record { zone = None; said = bare Refused; answering = answering; says = refl; goes_out = inl h }
-refused_goes_out zs limit q octets (Err e) answering h = tt
+pub refused_from : (zs : List Zone) (limit : ℕ) (q : ReadQuery) (octets : List ℕ)
+    → IsAnswering zs (asked_of q).name (asked_of q).record_type None → IsSent limit q (bare Refused) octets → IsResponseFrom zs limit q 0 octets
+refused_from zs limit q octets answering h = record {
+  response = record { zone = None; said = bare Refused; answering = answering; says = refl; goes_out = inl h };
+  labels_of = refl;
+}
+
+-- what comes from a zone is an answer
+pub answered : (zs : List Zone) (t : Transport) (read : Result ReadQuery ReadError) (labels : ℕ) (octets : List ℕ) → IsAnswerFromTo zs t read labels octets → IsAnswerTo zs t read octets
+answered zs t (Ok q) labels octets h = h.response
+answered zs t (Err e) labels octets h = h.1
 
 -- ---- a header alone has twelve octets
 
@@ -103,3 +111,8 @@ pub answers_octets : (zs : List Zone) (t : Transport) (message : List ℕ) (read
 answers_octets zs t message read (Err e) octets reported h = tt
 answers_octets zs t message read (Ok a) octets reported h =
     subst (λ (x : Result ReadQuery ReadError). IsAnswerTo zs t x octets) (sym (read_whole zs t message read octets reported h)) h
+
+pub answers_octets_from : (zs : List Zone) (t : Transport) (message : List ℕ) (read : Result ReadQuery ReadError) (labels : ℕ) (octets : List ℕ)
+    → ReadsQuery read (query_of message) → IsAnswerFromTo zs t read labels octets → IsAnswerFrom zs t message labels octets
+answers_octets_from zs t message read labels octets reported h =
+    subst (λ (x : Result ReadQuery ReadError). IsAnswerFromTo zs t x labels octets) (sym (read_whole zs t message read octets reported (answered zs t read labels octets h))) h

@@ -1,6 +1,6 @@
 -- Messages of a transfer one behind the other, and sets in pieces
-use Rattle.std.proofs.Common.{◌≡◌, inl, inr, ℕ, List, [], ◌∷◌, ◌++◌, map, refl, sym, ap, subst, ◌∙◌, append_assoc, append-nil}
-use Rattle.std.specs.Prelude.{Option}
+use Rattle.std.proofs.Common.{◌≡◌, inl, inr, ℕ, zero, suc, ◌≤◌, List, [], ◌∷◌, ◌++◌, length, map, take, refl, sym, ap, subst, ◌∙◌, append_assoc, append-nil, arith}
+use Rattle.std.specs.Prelude.{◌≢◌, Option}
 use Rattle.std.proofs.lemmas.List.Concat.{flat_map-append}
 use Rattle.zone_proto.specs.declared.record.Record.{Record}
 use Rattle.message_reading.specs.declared.query.Query.{Query as ReadQuery}
@@ -26,6 +26,12 @@ joined_one_by_one (r ∷ rs) = ap (λ xs. r ∷ xs) (joined_one_by_one rs)
 pub joined_groups : (gs : List Group) → joined (map records_of gs) ≡ all_records gs
 joined_groups [] = refl
 joined_groups (g ∷ gs) = ap (λ xs. records_of g ++ xs) (joined_groups gs)
+
+-- the first of some groups, so many but none, are some
+pub some_first : (count : ℕ) (gs : List Group) → (count ≡ 0 → ⊥) → count ≤ length gs → map records_of (take count gs) ≢ []
+some_first zero gs some few e = some refl
+some_first (suc n) [] some few e = absurd (omega (arith, few))
+some_first (suc n) (g ∷ gs) some few e = cc
 
 -- ---- what can't be sent
 
@@ -58,8 +64,8 @@ module _ (q : ReadQuery) where
 
   messages_join : (ms ns : List (List (List Record))) (text more : List ℕ) → AreMessages q ms text → AreMessages q ns more → AreMessages q (ms ++ ns) (text ++ more)
   messages_join [] ns text more e h = subst (λ (t : List ℕ). AreMessages q ns (t ++ more)) (sym e) h
-  messages_join (m ∷ ms) ns text more (octets, others, message, e, h) g =
-      (octets, others ++ more, message, ap (λ t. t ++ more) e ∙ append_assoc (framed octets) others more, messages_join ms ns others more h g)
+  messages_join (m ∷ ms) ns text more (octets, others, some, message, e, h) g =
+      (octets, others ++ more, some, message, ap (λ t. t ++ more) e ∙ append_assoc (framed octets) others more, messages_join ms ns others more h g)
 
   -- ---- what was sent
 
@@ -73,13 +79,13 @@ module _ (q : ReadQuery) where
   }
 
   -- a message was put behind what waited
-  pub one_sent : (pieces : List (List Record)) (octets waited waiting : List ℕ) (h k : Option (List ℕ)) → IsTransferMessage q (joined pieces) octets
-      → Moves (waited ++ framed octets) h k waiting → HasSent q pieces waited waiting h k
-  one_sent pieces octets waited waiting h k message moved = record {
+  pub one_sent : (pieces : List (List Record)) (octets waited waiting : List ℕ) (h k : Option (List ℕ)) → pieces ≢ []
+      → IsTransferMessage q (joined pieces) octets → Moves (waited ++ framed octets) h k waiting → HasSent q pieces waited waiting h k
+  one_sent pieces octets waited waiting h k some message moved = record {
     text = framed octets;
     messages = pieces ∷ [];
     parted = append-nil pieces;
-    written = (octets, [], message, sym (append-nil (framed octets)), refl);
+    written = (octets, [], some, message, sym (append-nil (framed octets)), refl);
     moved = moved;
   }
 

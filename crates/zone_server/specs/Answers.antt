@@ -1,6 +1,6 @@
 -- What the octets of a query are answered with. What is said is said by `IsResponse` of zone_response, what a query is by `query_of` of
 -- message_reading, and what is written by `IsWritten` of message_writing; here these three meet.
-use Rattle.std.specs.Prelude.{◌≡◌, ◌≢◌, ◌⊎◌, ◌<◌, ℕ, false, List, [], ◌++◌, map, Option, Some, None, Result, Ok, Err}
+use Rattle.std.specs.Prelude.{◌≡◌, ◌≢◌, ◌⊎◌, ◌<◌, ◌+◌, ℕ, false, List, [], ◌++◌, length, map, Option, Some, None, Result, Ok, Err}
 use Rattle.std.specs.List.{flat_map}
 use Rattle.std.specs.Option.{option_map_or}
 use Rattle.zone_proto.specs.declared.record.Record.{Record}
@@ -99,6 +99,16 @@ pub record IsResponseTo (zs : List Zone) (limit : ℕ) (q : ReadQuery) (octets :
   pub says : Says zone (asked_of q) said
   pub goes_out : GoesOut limit q said octets
 
+-- how many labels the origin of a zone has, that of the root among them; 0 where there is no zone
+abbrev pub origin_labels : Option Zone → ℕ
+origin_labels None = 0
+origin_labels (Some z) = length z.origin + 1
+
+-- the same, where the zone that answers has an origin of so many labels: so many at the end of the question's name are the origin
+pub record IsResponseFrom (zs : List Zone) (limit : ℕ) (q : ReadQuery) (labels : ℕ) (octets : List ℕ) : Type 0 where
+  pub response : IsResponseTo zs limit q octets
+  pub labels_of : labels ≡ origin_labels response.zone
+
 -- ---- what octets are answered with
 
 -- The number of NOTIMP, of FORMERR, and BADVERS (RFC 1035 section 4.1.1, RFC 6891 section 9).
@@ -125,6 +135,14 @@ IsAnswerTo zs t (Err errors.Memory) octets = ⊥
 -- the answer to a message: no octets are no answer
 abbrev pub IsAnswer : List Zone → Transport → List ℕ → List ℕ → Type 0
 IsAnswer zs t message octets = IsAnswerTo zs t (query_of message) octets
+
+-- the same, from a zone whose origin has so many labels; from none where no zone is asked
+abbrev pub IsAnswerFromTo : List Zone → Transport → Result ReadQuery ReadError → ℕ → List ℕ → Type 0
+IsAnswerFromTo zs t (Ok q) labels octets = IsResponseFrom zs (limit_for t q.extension) q labels octets
+IsAnswerFromTo zs t (Err e) labels octets = (labels ≡ 0) × IsAnswerTo zs t (Err e) octets
+
+abbrev pub IsAnswerFrom : List Zone → Transport → List ℕ → ℕ → List ℕ → Type 0
+IsAnswerFrom zs t message labels octets = IsAnswerFromTo zs t (query_of message) labels octets
 
 -- a call told whether there is one
 abbrev pub SaysWhether : Answered → List ℕ → Type 0

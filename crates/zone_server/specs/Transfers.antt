@@ -1,6 +1,6 @@
 -- A whole zone sent in messages one behind the other, AXFR (RFC 5936), and what a query for a zone's changes is answered with, IXFR
 -- (RFC 1995)
-use Rattle.std.specs.Prelude.{◌≡◌, ◌⊎◌, ℕ, ◌-◌, ◌≤◌, true, false, Bool, ◌&&◌, ◌||◌, ◌==◌, nat_lt, if◌then◌else◌, List, [], ◌∷◌, ◌++◌, length, map, Option, Some, None, unwrap_or}
+use Rattle.std.specs.Prelude.{◌≡◌, ◌≢◌, ◌⊎◌, ℕ, ◌-◌, ◌≤◌, true, false, Bool, ◌&&◌, ◌||◌, ◌==◌, nat_lt, if◌then◌else◌, List, [], ◌∷◌, ◌++◌, length, map, Option, Some, None, unwrap_or}
 use Rattle.std.specs.List.{flat_map}
 use Rattle.std.specs.Map.{values_of}
 use Rattle.zone_proto.specs.declared.record.Record.{Record}
@@ -109,11 +109,12 @@ ArePiecesOf q [] pieces = pieces ≡ []
 ArePiecesOf q (set ∷ sets) pieces =
     (first others : List (List Record)) × (pieces ≡ first ++ others) × IsCutInto q set first × ArePiecesOf q sets others
 
--- messages one behind the other, each behind its length, of these pieces each: a piece isn't cut
+-- messages one behind the other, each behind its length, of these pieces each, one at least: a piece isn't cut
 abbrev pub AreMessages : ReadQuery → List (List (List Record)) → List ℕ → Type 0
 AreMessages q [] text = text ≡ []
 AreMessages q (pieces ∷ others) text =
-    (octets more : List ℕ) × IsTransferMessage q (joined pieces) octets × (text ≡ framed octets ++ more) × AreMessages q others more
+    (octets more : List ℕ) × (pieces ≢ []) × IsTransferMessage q (joined pieces) octets × (text ≡ framed octets ++ more)
+    × AreMessages q others more
 
 -- Sets are sent whole: the answers of the messages together are the records of the sets, in their order.
 pub record AreSentWhole (q : ReadQuery) (sets : List (List Record)) (text : List ℕ) : Type 0 where

@@ -1,7 +1,7 @@
 //! From the octets of a query to those of its response.
 ghost use Rattle.std.specs.Prelude.{◌≡◌, ◌<◌, ◌≤◌, length, IfOk, OnOk};
 ghost use Rattle.zone_response.specs.Responses.{bare};
-ghost use Rattle.zone_server.specs.Answers.{asked_of, bad_version, IsAnswer, IsAnswerTo, IsResponseTo, IsSent, SaysWhether};
+ghost use Rattle.zone_server.specs.Answers.{asked_of, bad_version, IsAnswer, IsAnswerFrom, IsAnswerFromTo, IsAnswerTo, IsResponseFrom, IsSent, SaysWhether};
 ghost use Rattle.zone_server.specs.BareHeaders.{HasOpcode, IsBareHeader};
 ghost use Rattle.zone_server.specs.Limits.{limit_for};
 
@@ -64,8 +64,27 @@ pub fn answer<Z: ServedZones>(
     answer_read(alloc, zones, read, transport, out)
 }
 
-/// Answers a message by what is read of it, as `answer` does: for a caller that has read it already. Fails only for lack of memory.
-pub fn answer_read<Z: ServedZones>(
+/// Answers a message as [`answer`] does, and gives how many labels the origin of the zone has that answers, that of the root among them: so
+/// many at the end of the question's name are the origin. It is 0 where no zone answers. Fails only for lack of memory.
+#[tactic(auto, using(crate::proofs::AnswerFacts::answers_octets_from))]
+pub fn answer_from<Z: ServedZones>(
+    alloc: Global,
+    zones: &Z,
+    message: &[u8],
+    transport: Transport,
+    out: &mut Vec<u8>,
+) -> Result<usize, AllocError>
+    ensures answer { IfOk result (λ labels. IsAnswerFrom (Z.zones zones.now) transport
+        message.now labels out.new.items) }
+    ensures short { OnOk result (length out.new.items < 65536) }
+{
+    let read = read_query(alloc, message);
+    answer_read_from(alloc, zones, read, transport, out)
+}
+
+/// Answers a message by what is read of it.
+#[tactic(auto, using(crate::proofs::AnswerFacts::answered))]
+pub(crate) fn answer_read<Z: ServedZones>(
     alloc: Global,
     zones: &Z,
     read: Result<Query, ReadError>,
@@ -79,11 +98,33 @@ pub fn answer_read<Z: ServedZones>(
     ensures reported { IfOk result (λ reported. SaysWhether reported out.new.items) }
     ensures short { OnOk result (length out.new.items < 65536) }
 {
+    answer_read_from(alloc, zones, read, transport, out)?;
+    if out.is_empty() {
+        Ok(Answered::Nothing)
+    } else {
+        Ok(Answered::Response)
+    }
+}
+
+/// Answers a message by what is read of it as [`answer_from`] does by its octets: for a caller that has read it already. Fails only for lack
+/// of memory.
+pub fn answer_read_from<Z: ServedZones>(
+    alloc: Global,
+    zones: &Z,
+    read: Result<Query, ReadError>,
+    transport: Transport,
+    out: &mut Vec<u8>,
+) -> Result<usize, AllocError>
+    requires { HasOpcode read }
+    ensures answer { IfOk result (λ labels. IsAnswerFromTo (Z.zones zones.now) transport read
+        labels out.new.items) }
+    ensures short { OnOk result (length out.new.items < 65536) }
+{
     match read {
         Ok(query) => answer_query(alloc, zones, &query, transport, out),
         Err(ReadError::NoHeader | ReadError::NoQuery) => {
             out.clear();
-            Ok(Answered::Nothing)
+            Ok(0)
         }
         Err(ReadError::NotImplemented(header)) => answer_header(header, NOT_IMPLEMENTED, out),
         Err(ReadError::Malformed(header)) => answer_header(header, MALFORMED, out),
@@ -93,15 +134,15 @@ pub fn answer_read<Z: ServedZones>(
 }
 
 /// Answers by a header alone.
-fn answer_header(header: Header, code: u8, out: &mut Vec<u8>) -> Result<Answered, AllocError>
+fn answer_header(header: Header, code: u8, out: &mut Vec<u8>) -> Result<usize, AllocError>
     requires opcode { header.opcode < 16 }
     requires code { code < 16 }
     ensures answer { OnOk result (IsBareHeader header code out.new.items) }
-    ensures reported { IfOk result (λ reported. SaysWhether reported out.new.items) }
+    ensures none { IfOk result (λ labels. labels ≡ 0) }
     ensures short { OnOk result (length out.new.items < 65536) }
 {
     write_bare_header(out, header, code)?;
-    Ok(Answered::Response)
+    Ok(0)
 }
 
 /// Answers a query of another version of EDNS than 0.
@@ -110,46 +151,45 @@ fn answer_version(
     query: &Query,
     transport: Transport,
     out: &mut Vec<u8>,
-) -> Result<Answered, AllocError>
+) -> Result<usize, AllocError>
     ensures answer { OnOk result (IsSent (limit_for transport query.now.extension) query.now
         (bare bad_version) out.new.items) }
-    ensures reported { IfOk result (λ reported. SaysWhether reported out.new.items) }
+    ensures none { IfOk result (λ labels. labels ≡ 0) }
     ensures short { OnOk result (length out.new.items < 65536) }
 {
     let limit = limit_for(transport, query);
     send_code(alloc, out, query, BAD_VERSION, limit)?;
-    Ok(Answered::Response)
+    Ok(0)
 }
 
-/// Answers a query that was read.
+/// Answers a query that was read, and gives how many labels the origin of the zone has that answers.
+#[tactic(auto, using(crate::proofs::AnswerFacts::response_short))]
 fn answer_query<Z: ServedZones>(
     alloc: Global,
     zones: &Z,
     query: &Query,
     transport: Transport,
     out: &mut Vec<u8>,
-) -> Result<Answered, AllocError>
-    ensures answer { OnOk result (IsResponseTo (Z.zones zones.now)
-        (limit_for transport query.now.extension) query.now out.new.items) }
-    ensures reported { IfOk result (λ reported. SaysWhether reported out.new.items) }
+) -> Result<usize, AllocError>
+    ensures answer { IfOk result (λ labels. IsResponseFrom (Z.zones zones.now)
+        (limit_for transport query.now.extension) query.now labels out.new.items) }
     ensures short { OnOk result (length out.new.items < 65536) }
 {
     let limit = limit_for(transport, query);
-    send_response(alloc, zones, query, limit, out)?;
-    Ok(Answered::Response)
+    send_response(alloc, zones, query, limit, out)
 }
 
-/// Writes the response to a query from the zone that answers, in place of the octets of `out`.
+/// Writes the response to a query from the zone that answers, in place of the octets of `out`, and gives how many labels its origin has.
+#[tactic(auto, using(crate::proofs::AnswerFacts::refused_from, crate::proofs::AnswerFacts::said_from))]
 fn send_response<Z: ServedZones>(
     alloc: Global,
     zones: &Z,
     query: &Query,
     limit: u16,
     out: &mut Vec<u8>,
-) -> Result<(), AllocError>
+) -> Result<usize, AllocError>
     requires { 512 ≤ limit }
-    ensures { OnOk result
-        (IsResponseTo (Z.zones zones.now) limit query.now
+    ensures { IfOk result (λ labels. IsResponseFrom (Z.zones zones.now) limit query.now labels
         out.new.items) }
 {
     let Ok(name) = LowerName::new(&query.question.name) else {
@@ -161,13 +201,18 @@ fn send_response<Z: ServedZones>(
         query_class: query.question.query_class,
     };
     let Some(zone) = zone_for(zones, question)? else {
-        return send_code(alloc, out, query, ResponseCode::Refused, limit);
+        send_code(alloc, out, query, ResponseCode::Refused, limit)?;
+        return Ok(0);
     };
+    let labels = zone.origin.num_labels() + 1;
     let options = LookupOptions {
         dnssec_ok: asks_for_dnssec(query),
     };
     match respond(zone, question, options) {
-        Ok(response) => send(alloc, out, query, &name, &response, limit),
+        Ok(response) => {
+            send(alloc, out, query, &name, &response, limit)?;
+            Ok(labels)
+        }
         Err(_) => Err(AllocError),
     }
 }

@@ -22,7 +22,7 @@ mod transport;
 mod waiting;
 mod zones;
 
-pub use answering::{Answered, answer, answer_read};
+pub use answering::{Answered, answer, answer_from, answer_read_from};
 pub use bare_header::write_bare_header;
 pub use frames::Mode;
 pub use listed_zones::ListedZones;

@@ -1,4 +1,4 @@
-use Rattle.std.proofs.Common.{◌≡◌, Bool, subst}
+use Rattle.std.proofs.Common.{◌≡◌, ◌+◌, Bool, ap, subst}
 use Rattle.std.specs.Prelude.{Option, Some, None, option_map}
 use Rattle.zone_lookup.proofs.Chasing.{no_value}
 use Rattle.zone_proto.specs.Names.{Name, lower}
@@ -8,7 +8,7 @@ use Rattle.zone_response.specs.Responses.{IsResponse}
 use Rattle.zone_response.specs.Sections.{sections}
 use Rattle.zone_server.specs.Answers.{asked_of}
 use Rattle.zone_server.specs.ServedZones.{IsAnswering}
-use Rattle.zone_server.proofs.AnswerFacts.{refused_goes_out, said_goes_out}
+use Rattle.zone_server.proofs.AnswerFacts.{refused_from, said_from}
 use Rattle.zone_server.proofs.answering.send_response.Goals as goal
 
 pub returns-in-Ok-respond : goal.returns-in-Ok-respond
@@ -26,8 +26,8 @@ returns-in-Ok-respond g c =
     let Q : Option (ServedZone Sg Hs) → Type 0 = λ o. IsAnswering zs c.in-Ok.name q.query_type.0 (option_map kept o) in
     let R : Bool → Type 0 = λ signed. IsResponse z (asked c.in-Ok.name signed) said in
     let T : Name → Type 0 = λ n. IsResponse z (asked n (asked_of c.args.query.now).signed) said in
-    said_goes_out zs c.args.limit c.args.query.now z said c.send.new.out.items c.send.result (subst P name (subst Q c.in-Some.is c.in_ok-zone.ensures))
-    (subst T name (subst R c.asks_for_dnssec.ensures c.in-Ok-respond.ensures.response)) c.send.ensures
+    said_from zs c.args.limit c.args.query.now z said (c.num_labels.result + 1) c.send.new.out.items (subst P name (subst Q c.in-Some.is c.in_ok-zone.ensures))
+    (subst T name (subst R c.asks_for_dnssec.ensures c.in-Ok-respond.ensures.response)) (ap (λ n. n + 1) c.num_labels.ensures.count) c.in_ok-send.ensures
 
 pub returns-in_default-2 : goal.returns-in_default-2
 returns-in_default-2 g c =
@@ -39,5 +39,5 @@ returns-in_default-2 g c =
     let name : c.in-Ok.name ≡ lower q.name = c.in-Ok.ensures.ok in
     let P : Name → Type 0 = λ n. IsAnswering zs n q.query_type.0 None in
     let Q : Option (ServedZone Sg Hs) → Type 0 = λ o. IsAnswering zs c.in-Ok.name q.query_type.0 (option_map kept o) in
-    refused_goes_out zs c.args.limit c.args.query.now c.send_code.new.out.items c.send_code.result
-    (subst P name (subst Q (no_value c.in_ok-zone.field-0 c.in_default-2.not-Some) c.in_ok-zone.ensures)) c.send_code.ensures
+    refused_from zs c.args.limit c.args.query.now c.send_code.new.out.items
+    (subst P name (subst Q (no_value c.in_ok-zone.field-0 c.in_default-2.not-Some) c.in_ok-zone.ensures)) c.in_ok-send_code.ensures

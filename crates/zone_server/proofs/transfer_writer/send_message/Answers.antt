@@ -6,7 +6,7 @@ use Rattle.zone_server.specs.Frames.{framed}
 use Rattle.zone_server.specs.Serving.{Moves}
 use Rattle.zone_server.specs.Transfers.{IsTransferMessage}
 use Rattle.zone_server.specs.TransferSteps.{WritesMessage}
-use Rattle.zone_server.proofs.TransferFacts.{broken_at_once, joined_groups, none_sent, one_sent}
+use Rattle.zone_server.proofs.TransferFacts.{broken_at_once, joined_groups, none_sent, one_sent, some_first}
 use Rattle.zone_server.proofs.transfer_writer.send_message.Goals as goal
 
 pub returns-in-Ok-eq0-clause-sent : goal.returns-in-Ok-eq0-clause-sent
@@ -20,6 +20,7 @@ returns-in_ok-put_answer-in-Ok-clause-sent g c =
     let u = g.W.Write.contents c.args.output.now in
     let v = g.W.Write.contents c.put_answer.new.output in
     one_sent q (map records_of first) octets c.args.answers.now.items c.put_answer.new.answers.items u v
+    (some_first c.in-Ok.count c.args.groups.now c.in-Ok.differs c.in-Ok.ensures.at_most)
     (subst (λ rs. IsTransferMessage q rs octets) (sym (joined_groups first)) c.in-Ok.ensures.message)
     (subst (λ (o : List ℕ). Moves (c.args.answers.now.items ++ framed o) u v c.put_answer.new.answers.items) c.as_slice.ensures.value
     c.in_ok-put_answer-in-Ok.ensures)
