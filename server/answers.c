@@ -5,7 +5,7 @@
 /* What a response by keys was, by its header: its options are not the library's to tell. */
 static nk_summary summary_of(const uint8_t *response) {
     uint32_t code = response[3] & 15, kind = code == 0 ? NK_ANSWER : code == 3 ? NK_NAME_ERROR : code == 5 ? NK_REFUSED : NK_FAILED;
-    return (nk_summary){code, kind, response[2] >> 1 & 1, NK_COOKIE_ABSENT};
+    return (nk_summary){code, kind, response[2] >> 1 & 1, NK_COOKIE_ABSENT, 0};
 }
 
 uint32_t answer_message(struct worker *worker, nk_transfer *transfer, const struct sockaddr *client, uint32_t transport, time_t now, const uint8_t *query,

@@ -197,7 +197,8 @@ int config_access(const struct config *config, nk_access *access) {
     for (size_t i = 0; i < config->transfer_count && code == NK_DONE; i++) {
         const struct pair *it = &config->transfers[i];
         code = nk_zones_allow(access, (uint8_t *)it->origin, strlen(it->origin), (uint8_t *)it->of, strlen(it->of));
-        if (code != NK_DONE) fprintf(stderr, "transfer %s %s: %s\n", it->origin, it->of, code == NK_NO_KEY ? "there is no such key" : code == NK_BAD_NAME ? "one of them isn't a domain name" : "out of memory");
+        const char *why = code == NK_NO_KEY ? "there is no such key" : code == NK_BAD_NAME ? "one of them isn't a domain name" : "out of memory";
+        if (code != NK_DONE) fprintf(stderr, "transfer %s %s: %s\n", it->origin, it->of, why);
     }
     return code == NK_DONE ? 0 : -1;
 }

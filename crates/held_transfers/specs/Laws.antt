@@ -1,6 +1,6 @@
 -- Laws of messages that are answered by keys
 use Rattle.std.specs.Prelude.{◌≡◌, ℕ, true, List, Option, Some}
-use Rattle.zone_proto.specs.Names.{lower}
+use Rattle.std.specs.Arc.{arc_value}
 use Rattle.message_tsig.specs.declared.key.Key.{Key}
 use Rattle.message_tsig.specs.declared.tsig.Tsig.{Tsig}
 use Rattle.message_tsig.specs.Checking.{IsAuthentic}
@@ -16,10 +16,10 @@ use Rattle.held_transfers.specs.Answering.{AnswersWithKeys}
 abbrev pub IsFoundSigned : List Key → ℕ → List ℕ → Key → Type 0
 IsFoundSigned keys now message k = (tsig : Tsig) × (rest : List ℕ) × IsAuthentic keys now message tsig k rest
 
--- a grant lets those have the zone that is sent who have this key, or none; and if it is a key, the message was found signed under it
+-- a grant lets those have the zone that is held and sent who have this key, or none; and if it is a key, the message was found signed under it
 pub record IsEntitled (access : TransferAccess) (now : ℕ) (message : List ℕ) (h : HeldTransfer) : Type 0 where
   pub key : Option Key
-  pub granted : is_let access.grants.items key (lower h.transfer.query.question.name) ≡ true
+  pub granted : is_let access.grants.items key (arc_value h.zone).origin ≡ true
   pub authentic : (k : Key) → key ≡ Some k → IsFoundSigned access.keys.items now message k
 
 -- the messages of a zone begin only for those who may have it

@@ -19,7 +19,7 @@ use std::sync::Arc;
 use transfer_messages::{Begun, Opened, Request, Sealing, begin, open, seal};
 use zone_database::{NoSigner, Zone, ZoneDatabase, served};
 use zone_proto::LowerName;
-use zone_server::{Answered, ListedZones, TransferPolicy, Transport, limit_for};
+use zone_server::{Answered, ListedZones, TransferPolicy, Transport, limit_for, limit_without_opt};
 use zone_sha1::Sha1Hash;
 
 /// What a message is answered with.
@@ -123,17 +123,7 @@ fn answer_limit(alloc: Global, transport: Transport, message: &[u8]) -> Result<u
         Ok(query) => Ok(limit_for(transport, &query)),
         Err(ReadError::Memory) => Err(AllocError),
         Err(ReadError::BadVersion(query)) => Ok(limit_for(transport, &query)),
-        Err(_) => Ok(least_limit(transport)),
-    }
-}
-
-/// How many octets the response to what isn't read may have.
-fn least_limit(transport: Transport) -> u16
-    ensures { result ≡ limit_for transport None }
-{
-    match transport {
-        Transport::Udp { .. } => 512,
-        Transport::Tcp => 65_535,
+        Err(_) => Ok(limit_without_opt(transport)),
     }
 }
 

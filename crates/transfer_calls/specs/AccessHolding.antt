@@ -14,7 +14,7 @@ use Rattle.held_transfers.specs.contracts.access.TransferAccess.{the_row}
 abbrev pub held_code : Coded (Option TransferAccess)
 held_code = coded_option the_row.coded
 
--- what the owner of a handle may do with the memory at its pointer: nothing at null; else read, write and free the block that the keys
+-- what the owner of a handle may do with the memory at its pointer: nothing at null; else read, write and free the block that the access
 -- lies in, and nobody else may
 abbrev pub owns_held : Global → Ptr → Option TransferAccess → Fml
 owns_held alloc null_ptr None = ftrue

@@ -1,3 +1,4 @@
+pub mod Answered
 pub mod CallFacts
 pub mod Handles
 pub mod OwnDenials

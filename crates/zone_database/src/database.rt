@@ -132,6 +132,7 @@ impl ZoneDatabase {
 
     /// Answers a message from the zones, as `zone_server` does. How long it takes grows with the logarithm of how many
     /// zones there are. Fails only for lack of memory.
+    #[tactic(auto, using(crate::proofs::Answered::answered))]
     pub fn answer(
         &self,
         alloc: Global,

@@ -31,6 +31,6 @@ pub use server::Server;
 pub use serving::serve_frames;
 pub use transfer_policy::TransferPolicy;
 pub use transfer_reply::{TransferReply, asks_for_transfer, reply_to};
-pub use transport::{DATAGRAM_SIZE, Transport, limit_for};
+pub use transport::{DATAGRAM_SIZE, Transport, limit_for, limit_without_opt};
 pub use waiting::Stop;
 pub use zones::ServedZones;

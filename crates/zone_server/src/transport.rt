@@ -1,5 +1,5 @@
 //! How queries come and responses go (RFC 1035 section 4.2).
-ghost use Rattle.std.specs.Prelude.{◌≡◌};
+ghost use Rattle.std.specs.Prelude.{◌≡◌, None};
 ghost use Rattle.zone_server.specs.Limits.{limit_for};
 
 use message_reading::Query;
@@ -24,6 +24,16 @@ pub fn limit_for(transport: Transport, query: &Query) -> u16
 {
     match transport {
         Transport::Udp { limit } => query.limit(limit.min(DATAGRAM_SIZE)),
+        Transport::Tcp => u16::MAX,
+    }
+}
+
+/// How many octets the response to a message without an OPT record may have: over UDP 512 (RFC 1035 section 4.2.1).
+pub fn limit_without_opt(transport: Transport) -> u16
+    ensures { result ≡ limit_for transport None }
+{
+    match transport {
+        Transport::Udp { .. } => 512,
         Transport::Tcp => u16::MAX,
     }
 }
