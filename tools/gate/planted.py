@@ -51,9 +51,9 @@ def names_of(crate):
     return {*names.clauses, *names.items, *(clause for clauses in names.clauses.values() for clause in clauses)}
 
 
-def turned(crate, name):
-    """The texts that a wrong body gives to files of its crate, by path, and what is wrong with its file."""
-    path, old, texts, wrong = "", "", {}, []
+def turn(texts, crate, name):
+    """Breaks the texts of a crate's files, by path, as a wrong body does, and says what is wrong with its file."""
+    path, old, wrong = "", "", []
     for line in lines(crate, name):
         word, _, rest = line.partition(":")
         rest = rest.removeprefix(" ")
@@ -75,7 +75,22 @@ def turned(crate, name):
             texts[path], old = texts[path].replace(old, rest), ""
         elif line.strip():
             wrong.append(f"the line '{line}' is none of a planted body")
-    return texts, (wrong if texts else ["it names no file"])
+    return wrong if path else ["it names no file"]
+
+
+def turned(crate, name):
+    """The texts that a wrong body gives to files of its crate, by path, and what is wrong with its file."""
+    texts = {}
+    wrong = turn(texts, crate, name)
+    return texts, wrong
+
+
+def turned_together(crate, names):
+    """The texts that several wrong bodies give to files of their crate, by path."""
+    texts = {}
+    for name in names:
+        turn(texts, crate, name)
+    return texts
 
 
 def planted_in(crate):
