@@ -2,6 +2,8 @@
 //! allocation is refused. Each test is a separate process, so no other is disturbed.
 #![tactic(auto)]
 
+mod calls;
 mod scarcity;
 
+pub use calls::{scarce_answer, until_given};
 pub use scarcity::Scarcity;
