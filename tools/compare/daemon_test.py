@@ -378,10 +378,12 @@ def many_zones_start_soon(room):
 def queries_are_logged(room):
     with Server(room, "query-log {folder}/queries 1") as server, server.udp() as stream:
         ask(stream, "w\\034\\092.example.com.", "TXT")
+        ask(stream, "example.org.", "TXT")
         time.sleep(0.1)
         with open(f"{server.folder}/queries", encoding="ascii") as it:
-            line = json.loads(it.read())
+            line, refused = map(json.loads, it)
         need(line["name"] == "w\\034\\092.example.com." and line["type"] == 16 and line["kind"] == "answer" and line["client"] == "127.0.0.1", line)
+        need(line["zone"] == "example.com." and refused["zone"] is None and refused["kind"] == "refused", refused)
 
 
 TESTS = [faults_are_told, both_ways_are_answered, the_address_that_was_asked_answers, reloads_lose_nothing, zones_come_and_go, clients_have_limits,
