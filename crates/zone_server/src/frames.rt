@@ -1,9 +1,9 @@
 //! Messages behind their lengths (RFC 1035 section 4.2.2).
 ghost use Rattle.std.specs.Prelude.{◌≡◌, ◌<◌, ◌++◌, OnOk, length, option_map};
-ghost use Rattle.message_reading.specs.Octets.{octets_of, short_of};
 ghost use Rattle.zone_server.specs.Frames.{frame_of, framed, framed_of, length_text, message_then, transport_by};
 
 use crate::transport::Transport;
+use message_reading::{octets_of, short_of};
 use std::alloc::AllocError;
 
 /// How messages are in a stream.
@@ -44,27 +44,6 @@ fn message_then(transport: Transport, octets: &[u8]) -> Option<(Frame<'_>, &[u8]
     let (count, rest) = short_of(octets)?;
     let (message, rest) = octets_of(usize::from(count), rest)?;
     Some((Frame { transport, message }, rest))
-}
-
-/// A number of two octets, and what follows it.
-fn short_of(octets: &[u8]) -> Option<(u16, &[u8])>
-    ensures { option_map (λ x. (x.0, x.1.now)) result ≡ short_of octets.now }
-{
-    match octets {
-        [high, low, rest @ ..] => Some((u16::from(*high) * 256 + u16::from(*low), rest)),
-        _ => None,
-    }
-}
-
-/// So many octets, and what follows them.
-fn octets_of(count: usize, octets: &[u8]) -> Option<(&[u8], &[u8])>
-    ensures { option_map (λ x. (x.0.now, x.1.now)) result ≡ octets_of count octets.now }
-{
-    if count <= octets.len() {
-        Some(octets.split_at(count))
-    } else {
-        None
-    }
 }
 
 /// How a query came whose answer may have so many octets.
