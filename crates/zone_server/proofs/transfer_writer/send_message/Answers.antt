@@ -20,7 +20,7 @@ returns-in_ok-put_answer-in-Ok-clause-sent g c =
     let u = g.W.Write.contents c.args.output.now in
     let v = g.W.Write.contents c.put_answer.new.output in
     one_sent q (map records_of first) octets c.args.answers.now.items c.put_answer.new.answers.items u v
-    (some_first c.in-Ok.count c.args.groups.now c.in-Ok.differs c.in-Ok.ensures.at_most)
+    (some_first c.in-Ok.count c.args.groups.now c.in-Ok.count-test.1 c.in-Ok.ensures.at_most)
     (subst (λ rs. IsTransferMessage q rs octets) (sym (joined_groups first)) c.in-Ok.ensures.message)
     (subst (λ (o : List ℕ). Moves (c.args.answers.now.items ++ framed o) u v c.put_answer.new.answers.items) c.as_slice.ensures.value
     c.in_ok-put_answer-in-Ok.ensures)
