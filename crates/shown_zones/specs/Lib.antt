@@ -1,4 +1,5 @@
 pub mod Shown
 pub mod Steps
+pub mod Sending
 pub mod Agreeing
 pub mod StepLaws

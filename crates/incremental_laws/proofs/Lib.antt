@@ -1,0 +1,9 @@
+pub mod Found
+pub mod Lists
+pub mod OneSet
+pub mod SetsInTurn
+pub mod StartRecords
+pub mod Arriving
+pub mod OneStep
+pub mod Made
+pub mod Taken
