@@ -4,12 +4,12 @@ use Rattle.std.specs.List.{flat_map}
 use Rattle.zone_proto.specs.Names.{Name}
 use Rattle.zone_proto.specs.declared.record.Record.{Record}
 use Rattle.zone_map.specs.Zones.{Sets}
-use Rattle.shown_zones.specs.Sending.{sent_step, sent_steps}
+use Rattle.shown_zones.specs.Sending.{sent_step}
 use Rattle.shown_zones.specs.Steps.{Step}
 use Rattle.transfer_reading.specs.Differences.{◌>>=◌, Held, all_records, changed, held_of}
 use Rattle.transfer_reading.specs.Outcomes.{without_last, zone_of}
 use Rattle.incremental_laws.specs.Holding.{Holds}
-use Rattle.incremental_laws.specs.IncrementalLaws.{IsSent, StepsMakeTheNewest}
+use Rattle.incremental_laws.specs.IncrementalLaws.{StepsMakeTheNewest}
 use Rattle.incremental_laws.specs.Versions.{IsVersion, Leads}
 use Rattle.incremental_laws.proofs.OneStep.{step_made}
 use Rattle.incremental_laws.proofs.StartRecords.{start_at}

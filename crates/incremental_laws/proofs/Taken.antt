@@ -1,9 +1,9 @@
 -- Steps are differences that a secondary takes
-use Rattle.std.proofs.Common.{◌≡◌, ℕ, ◌==◌, true, false, List, [], ◌∷◌, ◌++◌, refl, sym, ap, ◌∙◌, subst, append_assoc, Ok}
+use Rattle.std.proofs.Common.{◌≡◌, ℕ, ◌==◌, true, List, [], ◌∷◌, ◌++◌, sym, ap, ◌∙◌, subst, append_assoc}
 use Rattle.std.specs.Prelude.{Some, None, filter, map}
 use Rattle.std.specs.List.{flat_map, AllByRecursion}
 use Rattle.std.proofs.lemmas.Grind.{flat_map-append}
-use Rattle.zone_proto.specs.Keys.{key, key_eq}
+use Rattle.zone_proto.specs.Keys.{key}
 use Rattle.zone_proto.specs.Names.{Name, lower, is_at_or_above}
 use Rattle.zone_proto.specs.Sets.{RRset}
 use Rattle.zone_proto.specs.Types.{IN, SOA}
@@ -11,17 +11,16 @@ use Rattle.zone_proto.specs.declared.record.Record.{Record}
 use Rattle.zone_proto.specs.declared.rr_key.RrKey.{RrKey}
 use Rattle.zone_map.specs.Zones.{Sets, set_at}
 use Rattle.zone_difference.proofs.Found.{each_found, filter_in_order}
-use Rattle.shown_zones.specs.Sending.{sent, sent_alone, sent_step, sent_steps}
+use Rattle.shown_zones.specs.Sending.{sent, sent_alone, sent_step}
 use Rattle.shown_zones.specs.Steps.{changed as changed_sets, is_changed, IsStep, Step}
 use Rattle.transfer_reading.specs.Laws.{records_of, AreOthers, IsRecord, IsStep as IsDifference, Lead, Step as Difference, TakesDifferences}
 use Rattle.transfer_reading.specs.Stages.{behind_all, serial_at}
 use Rattle.transfer_reading.specs.declared.stage.Stage.TheVariants.{Before}
-use Rattle.incremental_laws.specs.IncrementalLaws.{IsSent, StepsAreTaken}
-use Rattle.incremental_laws.specs.Versions.{AreKept, IsVersion, Leads}
+use Rattle.incremental_laws.specs.IncrementalLaws.{StepsAreTaken}
+use Rattle.incremental_laws.specs.Versions.{IsVersion, Leads}
 use Rattle.incremental_laws.proofs.Arriving.{changed_is}
 use Rattle.incremental_laws.proofs.Made.{first_version, last_version}
-use Rattle.incremental_laws.proofs.OneStep.{laid_out}
-use Rattle.incremental_laws.proofs.StartRecords.{others_none, start_at, IsStart}
+use Rattle.incremental_laws.proofs.StartRecords.{others_none, start_at}
 
 -- ---- the records of sets
 

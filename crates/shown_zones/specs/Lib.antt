@@ -3,3 +3,4 @@ pub mod Steps
 pub mod Sending
 pub mod Agreeing
 pub mod StepLaws
+pub mod Starting

@@ -1,0 +1,3 @@
+pub mod Pushed
+pub mod Taken
+pub mod Chosen

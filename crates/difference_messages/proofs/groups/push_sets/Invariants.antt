@@ -1,0 +1,8 @@
+use Rattle.std.proofs.Common.{◌≡◌, ◌++◌, take}
+use Rattle.std.specs.List.{flat_map}
+use Rattle.message_writing.specs.Responses.{all_records}
+use Rattle.shown_zones.specs.Sending.{sent}
+use Rattle.difference_messages.proofs.groups.push_sets.Given as goal
+
+abbrev pub invariant-loop-set : goal.invariant-loop-set
+invariant-loop-set l = all_records l.groups.items ≡ all_records l.initial.groups.items ++ flat_map sent (take l.set-index l.sets)

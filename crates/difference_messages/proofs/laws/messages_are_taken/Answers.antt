@@ -1,0 +1,5 @@
+use Rattle.difference_messages.proofs.Taken.{messages_are_taken}
+use Rattle.difference_messages.proofs.laws.messages_are_taken.Goals as goal
+
+pub returns : goal.returns
+returns c = messages_are_taken

@@ -1,0 +1,4 @@
+pub mod Choosing
+pub mod Messages
+pub mod Versions
+pub mod AnswerLaws
