@@ -1,7 +1,7 @@
 //! Requests that are signed, and their responses checked.
 
 use crate::checking::error_word;
-use crate::keys::read_octets;
+use compared_rows::read_octets;
 use line_text::{HexText, TextError, Words, read_hex};
 use message_tsig::{CheckedResponse, Key, ResponseChecker, ResponseFault, sign_request};
 use std::alloc::{AllocError, Global};

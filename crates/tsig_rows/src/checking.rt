@@ -1,6 +1,6 @@
 //! Requests whose TSIG is checked.
 
-use crate::keys::read_octets;
+use compared_rows::read_octets;
 use line_text::{HexText, TextError, Words};
 use message_tsig::{Checked, Key, Place, Tsig, TsigError, check_request, place_of};
 use std::alloc::{AllocError, Global};

@@ -1,18 +1,10 @@
-//! Words of rows that mean keys, algorithms and octets.
+//! Words of rows that mean keys and algorithms.
 
-use line_text::{TextError, Words, read_hex, read_name};
+use compared_rows::read_octets;
+use line_text::{TextError, Words, read_name};
 use message_tsig::{Algorithm, Key, KeyZones, Secret};
 use std::alloc::Global;
 use zone_proto::LowerName;
-
-/// Reads octets: hex, or `-` for none.
-pub fn read_octets(alloc: Global, words: &mut Words<'_>) -> Result<Vec<u8>, TextError> {
-    let word = words.take_needed()?;
-    match read_hex(alloc, word)? {
-        Some(octets) => Ok(octets),
-        None => Err(TextError::BadText),
-    }
-}
 
 /// Reads the name of an algorithm (RFC 8945 section 6).
 pub fn read_algorithm(words: &mut Words<'_>) -> Result<Algorithm, TextError> {

@@ -1,6 +1,6 @@
 //! Responses that are signed.
 
-use crate::keys::read_octets;
+use compared_rows::read_octets;
 use line_text::{HexText, TextError, Words, read_hex};
 use message_tsig::{Checked, Key, ResponseSigner, Tsig, check_request, refuse};
 use std::alloc::Global;
