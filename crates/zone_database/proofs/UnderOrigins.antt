@@ -54,6 +54,10 @@ asked_parts : (front rest : List Entry) (p : Entry) → all_asked (front ++ p �
 asked_parts [] rest p = refl
 asked_parts (e ∷ front) rest p = ap (λ zs. asked e ∷ zs) (asked_parts front rest p)
 
+-- the nearest of the origins is that of its zone
+pub own_origin : (x : Name) (es : List Entry) (p : Entry) → AreUnderOrigins es → origins.IsNearestIfAny x es (Some p) → p.1.origin ≡ p.0
+own_origin x es p under h = under_head p h.rest (under_rest h.front h.rest p (subst AreUnderOrigins h.stands under))
+
 -- the nearest of the origins, at which its zone stands, is the origin of the nearest zone
 pub nearest_asked : (x : Name) (es : List Entry) (o : Option Entry) → AreUnderOrigins es → origins.IsNearestIfAny x es o → IsNearestIfAny (may_answer_for false x) (all_asked es) (option_map asked o)
 nearest_asked x es None under h =
