@@ -1,39 +1,32 @@
 //! Calls of rows.
 
-use line_text::{HexText, TextError, Words, read_hex, read_u16, read_u32};
+use compared_rows::{Caller, read_octets};
+use line_text::{HexText, TextError, Words, read_u16, read_u32};
 use message_cookies::{CheckedCookie, CookieSecrets, check_cookie, make_cookie, siphash};
 use message_options::{ends_with_opt, opt_of, option_value, push_option, put_options};
-use std::alloc::{AllocError, Global};
+use std::alloc::Global;
 
-/// The answer to a call.
-pub fn answer(alloc: Global, call: &str) -> Result<String, AllocError> {
-    let (verb, words) = call.split_once(" ").unwrap_or((call, ""));
-    match call_answer(alloc, verb, Words::new(words.as_bytes())) {
-        Ok(text) => Ok(text),
-        Err(TextError::BadText) => format!(in alloc; "a row that can't be read"),
-        Err(TextError::Memory) => Err(AllocError),
+/// Makes calls of which none leaves anything.
+#[derive(Drop)]
+pub struct CookieCaller;
+
+impl Caller for CookieCaller {
+    fn new(_alloc: Global) -> CookieCaller {
+        CookieCaller
     }
-}
 
-/// The answer to a call by its verb.
-fn call_answer(alloc: Global, verb: &str, words: Words<'_>) -> Result<String, TextError> {
-    match verb {
-        "siphash" => siphash_answer(alloc, words),
-        "make" => make_answer(alloc, words),
-        "check" => check_answer(alloc, words),
-        "changed" => changed_answer(alloc, words),
-        "option" => option_answer(alloc, words),
-        "put" => put_answer(alloc, words),
-        _ => Err(TextError::BadText),
-    }
-}
-
-/// Reads octets: hex, or `-` for none.
-fn read_octets(alloc: Global, words: &mut Words<'_>) -> Result<Vec<u8>, TextError> {
-    let word = words.take_needed()?;
-    match read_hex(alloc, word)? {
-        Some(octets) => Ok(octets),
-        None => Err(TextError::BadText),
+    fn answer(&mut self, alloc: Global, call: &str) -> Result<String, TextError> {
+        let (verb, words) = call.split_once(" ").unwrap_or((call, ""));
+        let words = Words::new(words.as_bytes());
+        match verb {
+            "siphash" => siphash_answer(alloc, words),
+            "make" => make_answer(alloc, words),
+            "check" => check_answer(alloc, words),
+            "changed" => changed_answer(alloc, words),
+            "option" => option_answer(alloc, words),
+            "put" => put_answer(alloc, words),
+            _ => Err(TextError::BadText),
+        }
     }
 }
 

@@ -1,8 +1,8 @@
 //! Makes and checks cookies, and finds and puts options, as rows of text describe; reports which rows have another answer. Each line of
 //! standard input names a file of rows in the current directory, `data`.
 //!
-//! A row is `CALL => ANSWER`; a line without `=>` is a comment. Octets are written in hex, none as `-`, and moments as seconds since 1970.
-//! The calls:
+//! A row is `CALL => ANSWER`; a line without `=>` is a comment, and spaces within answers are passed over. Octets are written in hex, none as
+//! `-`, and moments as seconds since 1970. The calls:
 //!
 //! - `siphash KEY TEXT` makes a code: its octets, the first one first;
 //! - `make SECRET CLIENT ADDRESS MOMENT` makes a cookie;
@@ -13,16 +13,11 @@
 #![tactic(auto)]
 
 mod calls;
-mod rows;
 
-use std::{fs, io};
+use calls::CookieCaller;
+use compared_rows::report_files;
+use std::io;
 
 fn main(rt: HostRuntime) -> io::Result<()> {
-    for file in rt.lines(rt.alloc()) {
-        let file = file?;
-        let text = fs::read_to_string(&rt, file.as_str())?;
-        let report = rows::report(rt.alloc(), text.as_str())?;
-        println!(rt; "{file}: {report}")?;
-    }
-    Ok(())
+    report_files::<CookieCaller>(&rt)
 }
