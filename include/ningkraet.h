@@ -236,7 +236,7 @@ typedef struct nk_summary {
     uint32_t kind;               /* NK_ANSWER to NK_OTHER */
     uint32_t truncated;          /* 1 if it is truncated (TC), else 0 */
     uint32_t cookie;             /* what the query told by a COOKIE option: NK_COOKIE_ABSENT to NK_COOKIE_KNOWN */
-    uint32_t origin_labels;      /* so many labels at the end of the name, with the root's, are the origin of the zone that answers; 0: none does */
+    size_t origin_labels;        /* so many labels at the end of the name, with the root's, are the origin of the zone that answers; 0: none does */
 } nk_summary;
 
 /* The kind of a response. */

@@ -74,7 +74,7 @@ void log_query(const struct sockaddr *client, uint32_t transport, const uint8_t 
     char name[5 * 255 + 2], host[INET6_ADDRSTRLEN] = "", line[4096];
     size_t behind, length_of_address;
     const char *zone = name + put_name(name, query, query_length, &behind), *quote = summary->origin_labels ? "\"" : "";
-    for (uint32_t labels = summary->origin_labels; zone > name && (zone[-1] != '.' || --labels); zone--) {}
+    for (size_t labels = summary->origin_labels; zone > name && (zone[-1] != '.' || --labels); zone--) {}
     unsigned type = behind + 2 <= query_length ? query[behind] << 8 | query[behind + 1] : 0;
     inet_ntop(client->sa_family, client_octets(client, &length_of_address), host, sizeof host);
     struct timespec now;

@@ -18,7 +18,7 @@ pub struct SummaryNumbers {
     pub cookie: u32,
     /// How many labels the origin of the zone has that answers, that of the root among them: so many at the end of the question's name are
     /// the origin. 0 where no zone answers.
-    pub origin_labels: u32,
+    pub origin_labels: usize,
 }
 
 /// A summary in numbers; zeros for none.
@@ -38,7 +38,7 @@ pub(crate) fn numbers_of(summary: Option<Summary>) -> SummaryNumbers
             kind: kind_number(summary.kind),
             truncated: bit(summary.truncated),
             cookie: cookie_number(summary.cookie),
-            origin_labels: summary.origin_labels as u32,
+            origin_labels: summary.origin_labels,
         },
     }
 }
