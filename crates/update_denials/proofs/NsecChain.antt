@@ -17,6 +17,7 @@ use Rattle.zone_denial.specs.Chains.{IsNsecChain}
 use Rattle.zone_denial.specs.NsecSets.{nsec_set, nsec_set_at}
 use Rattle.zone_lookup.specs.StartOfAuthority.{serial}
 use Rattle.zone_signing.specs.Secured.{IsSecured, secured_set, signed}
+use Rattle.zone_trimming.specs.TrimmedChains.{HasTrimmedNsecSets}
 use Rattle.zone_trimming.specs.Trimming.{trimmed_set, trimmed_at}
 use Rattle.zone_trimming.proofs.TrimmedChain.{trimmed_is_nsec_chain}
 use Rattle.zone_planning.specs.declared.signer.PlanSigner.{PlanSigner}
@@ -55,9 +56,12 @@ module _ (made_by : PlanSigner → SignedPart → ℕ → ℕ → Option RRSIG) 
       by None = refl
       by (Some s) = ap Some (kept s (key_eq (key origin SOA) (key n NSEC)) refl (not_apex origin n))
 
+  pub has_trimmed : HasTrimmedNsecSets origin m (denial_ttl m origin) (serial m origin) after
+  has_trimmed = record { others = others; denials = denials }
+
 pub secured_is_nsec_chain : (made_by : PlanSigner → SignedPart → ℕ → ℕ → Option RRSIG) (now : ℕ) (origin : Name) (signers : List PlanSigner) (m after : Sets)
     → IsZone m → IsZone after → lower origin ≡ origin → IsTrue (owns m origin SOA)
     → IsSecured made_by now origin signers (denied_by_names origin m) after → IsNsecChain origin after
 secured_is_nsec_chain made_by now origin signers m after zone stands low soa is =
     trimmed_is_nsec_chain origin m after (denial_ttl m origin) (serial m origin) zone stands low soa
-    (record { others = others made_by now origin signers m after is; denials = denials made_by now origin signers m after is })
+    (has_trimmed made_by now origin signers m after is)

@@ -2,7 +2,7 @@
 ghost use Rattle.update_denials.specs.Laws.{UpdatedIsNsec3Chain, UpdatedIsNsecChain, UpdatedNsec3SetsStay};
 
 /// A zone with NSEC has a closed chain of them after each update that is prepared, once what was left blank is signed, by whoever and with
-/// whatever octets (RFC 4035 section 2.3). This is said of its sets alone, and not of its responses.
+/// whatever octets (RFC 4035 section 2.3). This is said of its sets alone; `update_laws` says it of its responses.
 pub fn updated_zones_are_nsec_chains()
     ensures { UpdatedIsNsecChain }
 {}

@@ -1,0 +1,4 @@
+pub mod Faultless
+pub mod Records
+pub mod UpdatedSets
+pub mod UpdatedZones
