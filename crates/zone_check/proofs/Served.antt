@@ -33,7 +33,8 @@ use Rattle.zone_file.specs.declared.error.ZoneFault.{ZoneFault}
 use Rattle.zone_file.specs.Zones.{Read, Stopped}
 use Rattle.zone_texts.specs.Readings.{IsReadOf}
 use Rattle.zone_publication.specs.declared.dates.Period.{Period}
-use Rattle.zone_check.specs.Publications.{is_ready, IsFit}
+use Rattle.zone_check.specs.Publications.{is_ready, IsFit, IsZoneOfFiles}
+use Rattle.zone_texts.specs.Inclusions.{Files, records_of as records_of_files}
 use Rattle.zone_builder.specs.declared.given.GivenRecord.{GivenRecord}
 use Rattle.zone_builder.specs.declared.loading.Loaded.{Loaded}
 use Rattle.zone_builder.specs.DenialKinds.{announced_kind, chain_kind, first_kind, hashed_kind, named_kind, nsec3_set_of, opts_out}
@@ -66,13 +67,13 @@ pub served_rightly : (origin : Name) (gs : List GivenRecord) (loaded : Loaded) �
 served_rightly origin gs loaded h right z made = subst DeniesRightly (same_zone origin gs loaded z h made) right
 
 -- what was loaded is fit where it is ready
-pub fit : (period : Option Period) (origin : Name) (gs : List GivenRecord) (loaded : Loaded) → IsLoaded origin gs loaded
-    → is_ready period loaded.origin loaded.records ≡ true → IsFit period origin gs
-fit period origin gs loaded h ready = record {
+pub fit : (strict : Bool) (period : Option Period) (origin : Name) (gs : List GivenRecord) (loaded : Loaded) → IsLoaded origin gs loaded
+    → is_ready strict period loaded.origin loaded.records ≡ true → IsFit strict period origin gs
+fit strict period origin gs loaded h ready = record {
   faultless = h.faultless;
   ready = λ z made.
       let records : loaded.records ≡ z.inner.records = same_sets loaded.records z.inner.records h.zone made.zone (λ n t. h.sets n t ∙ sym (made.sets n t)) in
-      let same : is_ready period loaded.origin loaded.records ≡ is_ready period origin z.inner.records = λ i. is_ready period (h.at i) (records i) in
+      let same : is_ready strict period loaded.origin loaded.records ≡ is_ready strict period origin z.inner.records = λ i. is_ready strict period (h.at i) (records i) in
       sym same ∙ ready;
 }
 
@@ -89,6 +90,14 @@ pub zone_of_read : (named : Option Name) (text : List ℕ) (rs : List PlacedReco
     → IsZoneOf (lower (origin_of named rs)) (map given_of rs) z
 zone_of_read named text rs z read file =
     subst (λ (qs : List PlacedRecord). IsZoneOf (lower (origin_of named qs)) (map given_of qs) z) (same_records file.records rs (sym file.read ∙ read)) file.zone
+
+-- and so it is with those that a file includes
+pub zone_of_files : (named : Option Name) (files : Files) (file : List ℕ) (rs : List PlacedRecord) (z : Zone) → records_of_files files (unwrap_or named []) file ≡ Some rs → IsZoneOfFiles named files file z
+    → IsZoneOf (lower (origin_of named rs)) (map given_of rs) z
+zone_of_files named files file rs z read is =
+    let both : Some is.records ≡ Some rs = sym is.read ∙ read in
+    let same : is.records ≡ rs = cc in
+    subst (λ (qs : List PlacedRecord). IsZoneOf (lower (origin_of named qs)) (map given_of qs) z) same is.zone
 
 -- a text that makes a zone has no fault
 no_end : (qs rs : List PlacedRecord) (f : ZoneFault) → map Read qs ≡ map Read rs ++ Stopped f ∷ [] → ⊥

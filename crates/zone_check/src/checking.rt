@@ -7,7 +7,9 @@ ghost use Rattle.zone_database.specs.Files.{IsZoneOfFile};
 ghost use Rattle.zone_database.specs.Texts.{given_of, IsZoneOf};
 ghost use Rattle.zone_database.specs.Zones.{served_zone};
 ghost use Rattle.zone_check.specs.Denials.{DeniesRightly};
-ghost use Rattle.zone_check.specs.Publications.{IsFit, IsReadFit};
+ghost use Rattle.zone_check.specs.Publications.{AreReadFit, IsFit, IsReadFit, IsZoneOfFiles};
+ghost use Rattle.zone_texts.specs.Inclusions.{Files};
+ghost use Rattle.zone_texts.specs.Readings.{IsFaultless};
 ghost use Rattle.zone_file.specs.declared.placed.PlacedRecord.{PlacedRecord};
 
 use crate::reporting::{tell, tell_faults};
@@ -45,10 +47,24 @@ pub fn check<R: Read, T: Texts, W: Write, E: Write>(
     ensures fit { result ≡ 0 → IsFalse wanted.now.is_printed
         → (text : List ℕ) → R.remaining input.old ≡ Some text
         → (records : List PlacedRecord)
-        × IsReadFit wanted.now.period wanted.now.origin text records }
+        × IsReadFit wanted.now.is_strict wanted.now.period wanted.now.origin text records }
     ensures served { result ≡ 0 → IsFalse wanted.now.is_printed
         → (text : List ℕ) → R.remaining input.old ≡ Some text
         → (z : Zone) → IsZoneOfFile wanted.now.origin text z
+        → DeniesRightly (served_zone z) }
+    // Where files are known, with that text, so it is with those that it includes.
+    ensures fit_files { result ≡ 0 → IsFalse wanted.now.is_printed
+        → (text : List ℕ) → R.remaining input.old ≡ Some text
+        → (files : Files) → T.known texts.old ≡ Some files
+        → files.text wanted.now.file.now ≡ text
+        → (records : List PlacedRecord)
+        × AreReadFit wanted.now.is_strict wanted.now.period wanted.now.origin files
+        wanted.now.file.now records }
+    ensures served_files { result ≡ 0 → IsFalse wanted.now.is_printed
+        → (text : List ℕ) → R.remaining input.old ≡ Some text
+        → (files : Files) → T.known texts.old ≡ Some files
+        → files.text wanted.now.file.now ≡ text
+        → (z : Zone) → IsZoneOfFiles wanted.now.origin files wanted.now.file.now z
         → DeniesRightly (served_zone z) }
 {
     let Ok(origin) = first_origin(alloc, &wanted.origin) else {
@@ -73,8 +89,10 @@ fn check_reading<W: Write, E: Write>(
     fault: &mut E,
 ) -> u8
     ensures status { result ≤ 2 }
+    ensures faultless { result ≡ 0 → IsFaultless reading }
     ensures fit { result ≡ 0 → IsFalse wanted.now.is_printed
-        → IsFit wanted.now.period (lower (origin_of wanted.now.origin reading.records.items))
+        → IsFit wanted.now.is_strict wanted.now.period
+        (lower (origin_of wanted.now.origin reading.records.items))
         (map given_of reading.records.items) }
     ensures served { result ≡ 0 → IsFalse wanted.now.is_printed
         → (z : Zone)
@@ -82,7 +100,7 @@ fn check_reading<W: Write, E: Write>(
         (map given_of reading.records.items) z
         → DeniesRightly (served_zone z) }
 {
-    if !reading.faults.is_empty() {
+    if !reading.is_faultless() {
         tell_faults(fault, &reading);
         return 1;
     }

@@ -1,5 +1,5 @@
-//! `zone_check [--print] [--at MOMENT [--soon TIME]] FILE [ORIGIN]`: reads a zone file and reports what is wrong with it or its zone,
-//! or prints its records.
+//! `zone_check [--all] [--print | --at MOMENT [--soon TIME] [--strict]] FILE [ORIGIN]`: reads a zone file and reports what is wrong with
+//! it or its zone, or prints its records.
 #![tactic(auto)]
 
 mod checking;
@@ -18,7 +18,7 @@ use std::{env, fs, io};
 use wanted::{Wanted, wanted_by};
 
 const USAGE: &[u8] =
-    b"usage: zone_check [--all] [--print | --at MOMENT|now [--soon TIME]] FILE [ORIGIN]\n";
+    b"usage: zone_check [--all] [--print | --at MOMENT|now [--soon TIME] [--strict]] FILE [ORIGIN]\n";
 
 fn main(rt: HostRuntime) -> ExitCode {
     let alloc = rt.alloc();

@@ -3,7 +3,7 @@ ghost use Rattle.std.specs.Prelude.{◌≡◌, IfSome};
 ghost use Rattle.std.specs.List.{list_all};
 ghost use Rattle.zone_publication.specs.declared.finding.Finding.{Finding as FindingValue};
 ghost use Rattle.zone_publication.specs.Findings.{findings};
-ghost use Rattle.zone_publication.specs.Warnings.{is_warning};
+ghost use Rattle.zone_publication.specs.Warnings.{is_allowed};
 ghost use Rattle.zone_check.specs.Publications.{is_ready};
 
 use crate::reporting::{Warning, tell_at, tell_more};
@@ -24,29 +24,36 @@ pub fn tell_publication<E: Write>(
     fault: &mut E,
 ) -> Option<bool>
     ensures { IfSome result
-        (λ ready. ready ≡ is_ready wanted.now.period loaded.now.origin loaded.now.records) }
+        (λ ready. ready ≡ is_ready wanted.now.is_strict wanted.now.period
+        loaded.now.origin loaded.now.records) }
 {
     let Some(period) = wanted.period else {
         return Some(true);
     };
     match check(alloc, &loaded.records, &loaded.origin, period) {
-        Ok(found) => Some(tell_findings(sources, found.as_slice(), wanted.most_told, fault)),
+        Ok(found) => Some(tell_findings(wanted, sources, found.as_slice(), fault)),
         Err(_) => None,
     }
 }
 
-/// Tells what was found, each of the faults and so many warnings, and gives whether all are warnings.
-fn tell_findings<E: Write>(sources: &Sources, found: &[Finding], most: usize, fault: &mut E) -> bool
-    ensures { result ≡ list_all (λ (f : FindingValue). is_warning f.what) found.now }
+/// Tells what was found, each of the faults and as many warnings as are wanted, and gives whether all are warnings.
+fn tell_findings<E: Write>(
+    wanted: &Wanted<'_>,
+    sources: &Sources,
+    found: &[Finding],
+    fault: &mut E,
+) -> bool
+    ensures { result
+        ≡ list_all (λ (f : FindingValue). is_allowed wanted.now.is_strict f.what) found.now }
 {
     let mut is_ready = true;
     let mut warnings = 0usize;
     let mut more = 0u64;
     for finding in found {
-        if !finding.what.is_warning() {
+        if !finding.what.is_allowed(wanted.is_strict) {
             tell_at(fault, sources, None, finding);
             is_ready = false;
-        } else if warnings < most {
+        } else if warnings < wanted.most_told {
             tell_at(fault, sources, None, &Warning(finding));
             warnings += 1;
         } else {

@@ -18,6 +18,8 @@ pub struct Wanted<'w> {
     pub is_printed: bool,
     /// The moment at which the zone is to be published, if that is asked of.
     pub period: Option<Period>,
+    /// Whether what is found of hosts is a fault, and no warning.
+    pub is_strict: bool,
     /// How many faults and warnings are told at most.
     pub most_told: usize,
     /// The name of the file.
@@ -26,8 +28,8 @@ pub struct Wanted<'w> {
     pub origin: Option<Name>,
 }
 
-/// What words ask for: perhaps `--all` first; then `--print`, or `--at` and a moment, as signatures have them or `now`, perhaps with `--soon` and a time behind
-/// it, or neither; a file; and an origin or nothing. None if they aren't that.
+/// What words ask for: perhaps `--all` first; then `--print`, or `--at` and a moment, as signatures have them or `now`, perhaps with `--soon` and a time and
+/// with `--strict` behind it, or neither; a file; and an origin or nothing. None if they aren't that.
 pub fn wanted_by(alloc: Global, words: &[String], now: u32) -> Option<Wanted<'_>> {
     let (first, behind) = words.split_first()?;
     let wanted = match first.as_str() {
@@ -44,14 +46,19 @@ pub fn wanted_by(alloc: Global, words: &[String], now: u32) -> Option<Wanted<'_>
 fn checked_by(alloc: Global, words: &[String], now: u32) -> Option<Wanted<'_>> {
     let (first, behind) = words.split_first()?;
     match first.as_str() {
-        "--print" => named_by(alloc, behind, true, None),
+        "--print" => named_by(alloc, behind, true),
         "--at" => {
             let (moment, behind) = behind.split_first()?;
             let moment = moment_of(moment.as_str(), now)?;
             let (soon, behind) = soon_of(behind)?;
-            named_by(alloc, behind, false, Some(Period { moment, soon }))
+            let (is_strict, behind) = strictness_of(behind);
+            Some(Wanted {
+                period: Some(Period { moment, soon }),
+                is_strict,
+                ..named_by(alloc, behind, false)?
+            })
         }
-        _ => named_by(alloc, words, false, None),
+        _ => named_by(alloc, words, false),
     }
 }
 
@@ -74,13 +81,16 @@ fn soon_of(words: &[String]) -> Option<(u32, &[String])> {
     }
 }
 
+/// Whether hosts are strictly judged, and the words behind that.
+fn strictness_of(words: &[String]) -> (bool, &[String]) {
+    match words {
+        [first, behind @ ..] if first.as_str() == "--strict" => (true, behind),
+        _ => (false, words),
+    }
+}
+
 /// What is wanted of the file that words name, and of the origin behind it.
-fn named_by(
-    alloc: Global,
-    words: &[String],
-    is_printed: bool,
-    period: Option<Period>,
-) -> Option<Wanted<'_>> {
+fn named_by(alloc: Global, words: &[String], is_printed: bool) -> Option<Wanted<'_>> {
     let (file, others) = words.split_first()?;
     let origin = match others {
         [] => None,
@@ -89,7 +99,8 @@ fn named_by(
     };
     Some(Wanted {
         is_printed,
-        period,
+        period: None,
+        is_strict: false,
         most_told: MOST_TOLD,
         file: file.as_str(),
         origin,

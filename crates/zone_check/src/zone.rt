@@ -42,7 +42,8 @@ pub fn check_zone<W: Write, E: Write>(
 ) -> u8
     ensures status { result ≤ 2 }
     ensures fit { result ≡ 0
-        → IsFit wanted.now.period (lower (origin_of wanted.now.origin records.items))
+        → IsFit wanted.now.is_strict wanted.now.period
+        (lower (origin_of wanted.now.origin records.items))
         (map given_of records.items) }
     ensures served { result ≡ 0
         → (z : Zone)
@@ -79,7 +80,8 @@ fn tell_loaded<W: Write, E: Write>(
     ensures status { result ≤ 2 }
     ensures served { result ≡ 0 → DeniesRightly (served loaded.now) }
     ensures published { result ≡ 0
-        → IsTrue (is_ready wanted.now.period loaded.now.origin loaded.now.records) }
+        → IsTrue (is_ready wanted.now.is_strict wanted.now.period
+        loaded.now.origin loaded.now.records) }
 {
     for warning in loaded.warnings.iter() {
         tell_at(fault, sources, warning.place(), &Warning(warning));

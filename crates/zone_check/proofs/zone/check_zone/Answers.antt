@@ -23,5 +23,5 @@ returns-in-Ok-load_records-clause-fit g c = λ none.
     let gs : List GivenRecord = map given_of c.args.records.items in
     let wanted : Name = origin_of c.args.wanted.now.origin c.args.records.items in
     let same : c.in-Ok.origin ≡ wanted = c.in-Ok.ensures.ok ∙ ap (origin_of c.args.wanted.now.origin) c.as_slice.ensures.value in
-    subst (λ (o : Name). IsFit c.args.wanted.now.period (lower o) gs) same
-    (fit c.args.wanted.now.period (lower c.in-Ok.origin) gs c.in-Ok-load_records.loaded c.in-Ok-load_records.ensures.zone (c.tell_loaded.ensures.published none))
+    subst (λ (o : Name). IsFit c.args.wanted.now.is_strict c.args.wanted.now.period (lower o) gs) same
+    (fit c.args.wanted.now.is_strict c.args.wanted.now.period (lower c.in-Ok.origin) gs c.in-Ok-load_records.loaded c.in-Ok-load_records.ensures.zone (c.tell_loaded.ensures.published none))
