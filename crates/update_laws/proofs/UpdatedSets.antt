@@ -1,5 +1,5 @@
 -- The sets of a zone after an update that was prepared and committed: they have the chain that was asked for, and nothing outside of the zone
-use Rattle.std.proofs.Common.{◌≡◌, ℕ, Bool, true, false, List, refl, sym, ap, ◌∙◌, subst}
+use Rattle.std.proofs.Common.{◌≡◌, ℕ, true, false, List, refl, sym, ap, ◌∙◌, subst}
 use Rattle.std.specs.Prelude.{Option, Some, is_some, ◌==◌, ◌&&◌}
 use Rattle.std.specs.List.{Contains}
 use Rattle.zone_proto.specs.declared.nx_proof_kind.NxProofKind.{NxProofKind}
