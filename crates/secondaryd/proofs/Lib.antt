@@ -1,0 +1,3 @@
+pub mod FrameFacts
+pub mod ChannelFacts
+pub mod FollowingFacts

@@ -1,0 +1,5 @@
+pub mod Channels
+pub mod Versions
+pub mod Followings
+pub mod Files
+pub mod Frames
