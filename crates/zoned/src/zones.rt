@@ -3,23 +3,30 @@ ghost use Rattle.std.specs.Prelude.{◌≡◌, List, ℕ, [], Some, map, IfOk, I
 ghost use Rattle.zone_proto.specs.Names.{lower};
 ghost use Rattle.zone_map.specs.Zones.{IsZone};
 ghost use Rattle.file_origins.specs.Origins.{origin_of};
-ghost use Rattle.zone_database.specs.Files.{IsZoneOfFile};
-ghost use Rattle.zone_database.specs.Texts.{given_of, IsLoaded, IsText};
+ghost use Rattle.zone_database.specs.Texts.{given_of, IsLoaded};
 ghost use Rattle.zone_database.specs.Zones.{zone_of_records};
+ghost use Rattle.zone_texts.specs.Inclusions.{Files, records_of};
+ghost use Rattle.zone_texts.specs.Readings.{IsReadOf};
+ghost use Rattle.zoned.specs.Files.{IsZoneOfFileAlone, IsZoneOfFiles};
 ghost use Rattle.zoned.specs.Zones.{policy_of};
 
-use crate::reporting::{tell, tell_at};
+use crate::reporting::{tell, tell_at, tell_faults};
 use crate::wanted::WantedZone;
 use file_origins::{first_origin, zone_origin};
+use host_texts::HostTexts;
 use std::alloc::{AllocError, Global};
 use std::collections::BTreeMap;
 use std::fs;
 use std::io::{Read, Write};
 use zone_builder::{LoadFault, Loaded};
 use zone_database::{Zone, load_records, zone_of};
-use zone_file::{FaultText, InputError, PlacedRecord, read_zone};
+use zone_file::PlacedRecord;
 use zone_proto::{LowerName, ProtoError, RecordType, RrKey};
 use zone_server::TransferPolicy;
+use zone_texts::{FilesError, Reading, Sources, Texts, read_files};
+
+/// How many faults of a file are told.
+const MOST_TOLD: usize = 20;
 
 /// Loads the zones that are wanted. None if one can't be loaded, or two have one origin; why is told.
 pub fn load_zones<E: Write>(
@@ -68,28 +75,47 @@ fn load_file<E: Write>(
     fault: &mut E,
 ) -> Option<Zone> {
     match fs::open(rt, wanted.file) {
-        Ok(mut input) => load_zone(alloc, wanted, &mut input, fault),
-        Err(_) => {
-            let _ = write!(fault, "{}: the file can't be read\n", wanted.file);
+        Ok(mut input) => {
+            let mut texts = HostTexts { rt };
+            load_zone(alloc, wanted, &mut input, &mut texts, fault)
+        }
+        Err(e) => {
+            let _ = write!(
+                fault,
+                "{}: the file can't be read: {}\n",
+                wanted.file,
+                e.kind()
+            );
             None
         }
     }
 }
 
-/// Loads the zone of a file that is read from an input. Where it is known what that has left, as of a slice, it is the file's text.
-#[tactic(auto, using(crate::proofs::ServedFiles::made_so))]
-fn load_zone<R: Read, E: Write>(
+/// Loads the zone of a file that is read from an input, and of those that it includes. Where it is known what the input has left, as of a
+/// slice, that is the file's text.
+#[tactic(auto, using(crate::proofs::ServedFiles::made_alone, crate::proofs::ServedFiles::made_whole))]
+fn load_zone<R: Read, T: Texts, E: Write>(
     alloc: Global,
     wanted: &WantedZone<'_>,
     input: &mut R,
+    texts: &mut T,
     fault: &mut E,
 ) -> Option<Zone>
-    ensures { IfSome result (λ zone. (text : List ℕ) → R.remaining input.old ≡ Some text →
-        IsZoneOfFile wanted.now.origin text zone) }
+    ensures alone { IfSome result (λ zone. (text : List ℕ) → R.remaining input.old ≡ Some text →
+        IsZoneOfFileAlone wanted.now.origin text zone) }
+    // Where files are known, with that text, so it is with those that it includes.
+    ensures included { IfSome result (λ zone. (text : List ℕ) → R.remaining input.old ≡ Some text →
+        (files : Files) → T.known texts.old ≡ Some files →
+        files.text wanted.now.file.now ≡ text →
+        IsZoneOfFiles wanted.now.origin files wanted.now.file.now zone) }
 {
-    let records = read_records(alloc, wanted, input, fault)?;
-    let loaded = loaded_of(alloc, wanted, records, fault)?;
-    match told_zone(alloc, loaded, wanted.file, fault) {
+    let Reading {
+        records,
+        sources,
+        ..
+    } = read_records(alloc, wanted, input, texts, fault)?;
+    let loaded = loaded_of(alloc, wanted, &sources, records, fault)?;
+    match told_zone(alloc, loaded, &sources, fault) {
         Ok(zone) => Some(zone),
         Err(_) => {
             tell(fault, b"out of memory\n");
@@ -102,13 +128,13 @@ fn load_zone<R: Read, E: Write>(
 fn told_zone<E: Write>(
     alloc: Global,
     loaded: Loaded,
-    file: &str,
+    sources: &Sources,
     fault: &mut E,
 ) -> Result<Zone, ProtoError>
     requires { IsZone loaded.records }
     ensures { IfOk result (λ zone. zone ≡ zone_of_records loaded.origin loaded.records) }
 {
-    warn(&loaded, file, fault)?;
+    warn(&loaded, sources, fault)?;
     let Loaded {
         origin,
         records,
@@ -119,9 +145,9 @@ fn told_zone<E: Write>(
 
 /// Tells what of a file isn't taken as it is: records that are left out, and all NSEC3PARAM records but one. Each
 /// stands for a whole chain, of which a server may take any (RFC 5155 section 7.3); it takes the first that is there.
-fn warn<E: Write>(loaded: &Loaded, file: &str, fault: &mut E) -> Result<(), ProtoError> {
+fn warn<E: Write>(loaded: &Loaded, sources: &Sources, fault: &mut E) -> Result<(), ProtoError> {
     for warning in loaded.warnings.iter() {
-        tell_at(fault, file, warning.place(), warning);
+        tell_at(fault, sources, warning.place(), warning);
     }
     let key = RrKey::new(loaded.origin.clone()?, RecordType::NSEC3PARAM);
     if loaded
@@ -131,42 +157,48 @@ fn warn<E: Write>(loaded: &Loaded, file: &str, fault: &mut E) -> Result<(), Prot
     {
         let _ = write!(
             fault,
-            "{file}: several NSEC3PARAM stand at the origin, and the first that has a chain is taken\n"
+            "{}: several NSEC3PARAM stand at the origin, and the first that has a chain is taken\n",
+            sources.name(0)
         );
     }
     Ok(())
 }
 
-/// Reads the records of a file.
-fn read_records<R: Read, E: Write>(
+/// Reads the records of a file and of those that it includes. Faults are told.
+fn read_records<R: Read, T: Texts, E: Write>(
     alloc: Global,
     wanted: &WantedZone<'_>,
     input: &mut R,
+    texts: &mut T,
     fault: &mut E,
-) -> Option<Vec<PlacedRecord>>
-    ensures { IfSome result (λ records. (text : List ℕ) → R.remaining input.old ≡ Some text →
-        IsText (unwrap_or wanted.now.origin []) text records.items) }
+) -> Option<Reading>
+    ensures alone { IfSome result (λ reading. (text : List ℕ) → R.remaining input.old ≡ Some text →
+        IsReadOf (unwrap_or wanted.now.origin []) text reading.records.items) }
+    ensures included { IfSome result (λ reading.
+        (text : List ℕ) → R.remaining input.old ≡ Some text →
+        (files : Files) → T.known texts.old ≡ Some files →
+        files.text wanted.now.file.now ≡ text →
+        records_of files (unwrap_or wanted.now.origin []) wanted.now.file.now
+        ≡ Some reading.records.items) }
 {
     let Ok(origin) = first_origin(alloc, &wanted.origin) else {
         tell(fault, b"out of memory\n");
         return None;
     };
-    match read_zone(alloc, origin, input) {
-        Ok(records) => Some(records),
-        Err(InputError::Memory) => {
+    match read_files(alloc, origin, wanted.file, input, texts, MOST_TOLD) {
+        Ok(reading) => {
+            if !reading.is_faultless() {
+                tell_faults(fault, &reading);
+                return None;
+            }
+            Some(reading)
+        }
+        Err(FilesError::Memory) => {
             tell(fault, b"out of memory\n");
             None
         }
-        Err(InputError::Input(_)) => {
-            let _ = write!(fault, "{}: the file can't be read\n", wanted.file);
-            None
-        }
-        Err(InputError::Fault(found)) => {
-            let told = FaultText {
-                file: wanted.file,
-                fault: &found,
-            };
-            let _ = write!(fault, "{told}\n");
+        Err(FilesError::Input(kind)) => {
+            let _ = write!(fault, "{}: the file can't be read: {kind}\n", wanted.file);
             None
         }
     }
@@ -176,6 +208,7 @@ fn read_records<R: Read, E: Write>(
 fn loaded_of<E: Write>(
     alloc: Global,
     wanted: &WantedZone<'_>,
+    sources: &Sources,
     records: Vec<PlacedRecord>,
     fault: &mut E,
 ) -> Option<Loaded>
@@ -193,7 +226,7 @@ fn loaded_of<E: Write>(
             None
         }
         Err(found) => {
-            tell_at(fault, wanted.file, found.place(), &found);
+            tell_at(fault, sources, found.place(), &found);
             None
         }
     }
