@@ -1,8 +1,9 @@
 //! The calls that rows write.
 
 use crate::left::Left;
-use line_text::read_hex;
-use std::alloc::{AllocError, Global};
+use compared_rows::octets_of;
+use line_text::TextError;
+use std::alloc::Global;
 use zone_database::{DatabaseHandle, Outcome, calls};
 
 /// A call, with what it is handed beside a handle.
@@ -20,41 +21,32 @@ pub enum Call<'r> {
     Answer(Vec<u8>, usize, u32),
 }
 
-/// Reads a call; none if it isn't one.
-pub fn read_call(alloc: Global, words: &str) -> Result<Option<Call<'_>>, AllocError> {
+/// Reads a call.
+pub fn read_call(alloc: Global, words: &str) -> Result<Call<'_>, TextError> {
     let (verb, rest) = words.split_once(' ').unwrap_or((words, ""));
     let (first, behind) = rest.split_once(' ').unwrap_or((rest, ""));
     match verb {
-        "new" => Ok(Some(Call::New)),
-        "free" => Ok(Some(Call::Free)),
-        "copy" => Ok(Some(Call::Copy)),
-        "move" => Ok(Some(Call::Move)),
-        "load" => Ok(Some(Call::Load(first, behind.replace(alloc, "|", "\n")?))),
-        "add" => Ok(Some(Call::Add(first, behind.replace(alloc, "|", "\n")?))),
-        "drop" => Ok(Some(Call::Drop(rest))),
-        "prepare" => Ok(Some(Call::Prepare(rest))),
-        "serial" => Ok(Some(Call::Serial(rest))),
+        "new" => Ok(Call::New),
+        "free" => Ok(Call::Free),
+        "copy" => Ok(Call::Copy),
+        "move" => Ok(Call::Move),
+        "load" => Ok(Call::Load(first, behind.replace(alloc, "|", "\n")?)),
+        "add" => Ok(Call::Add(first, behind.replace(alloc, "|", "\n")?)),
+        "drop" => Ok(Call::Drop(rest)),
+        "prepare" => Ok(Call::Prepare(rest)),
+        "serial" => Ok(Call::Serial(rest)),
         "answer" => read_answer(alloc, first, behind),
-        _ => Ok(None),
+        _ => Err(TextError::BadText),
     }
 }
 
 /// Reads the call that answers a message: its limit and its octets come after the transport.
-fn read_answer<'r>(
-    alloc: Global,
-    transport: &str,
-    words: &str,
-) -> Result<Option<Call<'r>>, AllocError> {
+fn read_answer<'r>(alloc: Global, transport: &str, words: &str) -> Result<Call<'r>, TextError> {
     let (limit, hex) = words.split_once(' ').unwrap_or((words, ""));
-    let digits = hex.replace(alloc, " ", "")?;
-    let (Some(octets), Ok(limit), Ok(transport)) = (
-        read_hex(alloc, digits.as_bytes())?,
-        limit.parse::<usize>(),
-        transport.parse::<u32>(),
-    ) else {
-        return Ok(None);
+    let (Ok(limit), Ok(transport)) = (limit.parse::<usize>(), transport.parse::<u32>()) else {
+        return Err(TextError::BadText);
     };
-    Ok(Some(Call::Answer(octets, limit, transport)))
+    Ok(Call::Answer(octets_of(alloc, hex)?, limit, transport))
 }
 
 /// Makes a call of a handle beside another one.

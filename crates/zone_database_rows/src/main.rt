@@ -24,17 +24,13 @@
 #![tactic(auto)]
 
 mod call;
+mod handles;
 mod left;
-mod rows;
 
-use std::{fs, io};
+use compared_rows::report_files;
+use handles::Handles;
+use std::io;
 
 fn main(rt: HostRuntime) -> io::Result<()> {
-    for file in rt.lines(rt.alloc()) {
-        let file = file?;
-        let text = fs::read_to_string(&rt, file.as_str())?;
-        let report = rows::report(rt.alloc(), text.as_str())?;
-        println!(rt; "{file}: {report}")?;
-    }
-    Ok(())
+    report_files::<Handles>(&rt)
 }

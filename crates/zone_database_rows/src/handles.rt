@@ -1,8 +1,10 @@
-//! Rows: calls and the answers that are wanted.
+//! Calls of rows, and how they are made.
 
 use crate::call::{Call, make, read_call};
 use crate::left::{Left, told};
 use alloc_failures::Scarcity;
+use compared_rows::Caller;
+use line_text::TextError;
 use std::alloc::{AllocError, Global};
 use zone_database::{DatabaseHandle, Outcome};
 
@@ -14,60 +16,31 @@ const STEP: usize = 48;
 
 const TRIES: usize = 1_000;
 
-/// The handles of a file.
+/// The handles of a file, which hold nothing where it begins.
 #[derive(Drop)]
-struct Handles {
+pub struct Handles {
     one: DatabaseHandle,
     two: DatabaseHandle,
 }
 
-/// Makes the calls of all rows. The report counts the rows, and has a line for each with another answer.
-pub fn report(alloc: Global, text: &str) -> Result<String, AllocError> {
-    let (mut rows, mut wrong) = (0usize, 0usize);
-    let mut faults = String::new(alloc);
-    let mut handles = Handles {
-        one: DatabaseHandle::empty(alloc),
-        two: DatabaseHandle::empty(alloc),
-    };
-    for row in text.lines() {
-        if let Some((call, wanted)) = row.split_once(" => ") {
-            rows = rows.saturating_add(1);
-            if !answers(alloc, &mut handles, call, wanted, &mut faults)? {
-                wrong = wrong.saturating_add(1);
-            }
+impl Caller for Handles {
+    fn new(alloc: Global) -> Handles {
+        Handles {
+            one: DatabaseHandle::empty(alloc),
+            two: DatabaseHandle::empty(alloc),
         }
     }
-    format!(in alloc; "{rows} rows, {wrong} wrong{faults}")
-}
 
-/// Whether a row has the answer that is wanted, spaces aside. If not, a line is added to the faults.
-fn answers(
-    alloc: Global,
-    handles: &mut Handles,
-    row: &str,
-    wanted: &str,
-    faults: &mut String,
-) -> Result<bool, AllocError> {
-    let got = answer(alloc, handles, row)?;
-    if got.replace(alloc, " ", "")? == wanted.replace(alloc, " ", "")? {
-        return Ok(true);
-    }
-    write!(faults, "\n  WRONG {row} => {got}, and not {wanted}")?;
-    Ok(false)
-}
-
-/// The answer to a row.
-fn answer(alloc: Global, handles: &mut Handles, row: &str) -> Result<String, AllocError> {
-    let (way, row) = row.split_once(": ").unwrap_or(("", row));
-    let (handle, words) = row.split_once(' ').unwrap_or((row, ""));
-    let Some(call) = read_call(alloc, words)? else {
-        return format!(in alloc; "a row that can't be read");
-    };
-    let Handles { one, two } = handles;
-    match handle {
-        "one" => call_answer(alloc, way, &call, one, two),
-        "two" => call_answer(alloc, way, &call, two, one),
-        _ => format!(in alloc; "no handle"),
+    fn answer(&mut self, alloc: Global, call: &str) -> Result<String, TextError> {
+        let (way, row) = call.split_once(": ").unwrap_or(("", call));
+        let (handle, words) = row.split_once(' ').unwrap_or((row, ""));
+        let call = read_call(alloc, words)?;
+        let Handles { one, two } = self;
+        match handle {
+            "one" => Ok(call_answer(alloc, way, &call, one, two)?),
+            "two" => Ok(call_answer(alloc, way, &call, two, one)?),
+            _ => Err(TextError::BadText),
+        }
     }
 }
 
