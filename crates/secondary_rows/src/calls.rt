@@ -3,33 +3,34 @@
 use crate::keys::keys_answer;
 use crate::notifies::{notify_answer, read_notify_answer, read_response_answer, response_answer};
 use crate::secondaries::{newer_answer, secondary_answer};
-use alloc_failures::Scarcity;
+use alloc_failures::scarce_answer;
+use compared_rows::{Caller, unless_refused};
 use line_text::{TextError, Words};
 use message_notify::NotifyOutcome;
-use std::alloc::{AllocError, Global};
+use std::alloc::Global;
 
-/// How many rooms are tried before a call has to succeed.
-const ATTEMPTS: usize = 400;
+/// Makes calls of which none leaves anything.
+#[derive(Drop)]
+pub struct SecondaryCaller;
 
-/// How many octets more each room has.
-const STEP: usize = 16;
+impl Caller for SecondaryCaller {
+    fn new(_alloc: Global) -> SecondaryCaller {
+        SecondaryCaller
+    }
 
-/// The answer to a call.
-pub fn answer(alloc: Global, call: &str) -> Result<String, AllocError> {
-    let (verb, words) = call.split_once(" ").unwrap_or((call, ""));
-    let made = match verb {
-        "scarce" => scarce_answer(alloc, words),
-        _ => call_answer(alloc, verb, words),
-    };
-    match made {
-        Ok(text) => Ok(text),
-        Err(TextError::BadText) => format!(in alloc; "a row that can't be read"),
-        Err(TextError::Memory) => Err(AllocError),
+    fn answer(&mut self, alloc: Global, call: &str) -> Result<String, TextError> {
+        match call.strip_prefix("scarce ") {
+            Some(call) => Ok(scarce_answer(alloc, || {
+                unless_refused(alloc, call_answer(alloc, call))
+            })?),
+            None => call_answer(alloc, call),
+        }
     }
 }
 
 /// The answer to a call other than `scarce`.
-fn call_answer(alloc: Global, verb: &str, text: &str) -> Result<String, TextError> {
+fn call_answer(alloc: Global, call: &str) -> Result<String, TextError> {
+    let (verb, text) = call.split_once(" ").unwrap_or((call, ""));
     let words = Words::new(text.as_bytes());
     match verb {
         "keys" => keys_answer(alloc, text),
@@ -42,28 +43,5 @@ fn call_answer(alloc: Global, verb: &str, text: &str) -> Result<String, TextErro
         "secondary" => secondary_answer(alloc, words),
         "newer" => newer_answer(alloc, words),
         _ => Err(TextError::BadText),
-    }
-}
-
-/// Whether a call was refused memory, and what its answer was then.
-fn scarce_answer(alloc: Global, call: &str) -> Result<String, TextError> {
-    let (verb, words) = call.split_once(" ").unwrap_or((call, ""));
-    let mut scarce = Scarcity::new(alloc)?;
-    scarce.begin(ATTEMPTS)?;
-    let given = scarce.until_given(STEP, || given_answer(alloc, verb, words));
-    scarce.end();
-    Ok(match given {
-        None => format!(in alloc; "refused")?,
-        Some((0, _)) => format!(in alloc; "never refused")?,
-        Some((_, text)) => format!(in alloc; "refused, then {text}")?,
-    })
-}
-
-/// The answer to a call; none if memory is refused.
-fn given_answer(alloc: Global, verb: &str, words: &str) -> Option<String> {
-    match call_answer(alloc, verb, words) {
-        Ok(text) => Some(text),
-        Err(TextError::Memory) => None,
-        Err(TextError::BadText) => Some(String::new(alloc)),
     }
 }

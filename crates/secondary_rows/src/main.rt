@@ -20,17 +20,12 @@
 mod calls;
 mod keys;
 mod notifies;
-mod rows;
 mod secondaries;
 
-use std::{fs, io};
+use calls::SecondaryCaller;
+use compared_rows::report_files;
+use std::io;
 
 fn main(rt: HostRuntime) -> io::Result<()> {
-    for file in rt.lines(rt.alloc()) {
-        let file = file?;
-        let text = fs::read_to_string(&rt, file.as_str())?;
-        let report = rows::report(rt.alloc(), text.as_str())?;
-        println!(rt; "{file}: {report}")?;
-    }
-    Ok(())
+    report_files::<SecondaryCaller>(&rt)
 }

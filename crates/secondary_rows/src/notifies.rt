@@ -1,19 +1,11 @@
 //! NOTIFY messages, written and read.
 
-use line_text::{HexText, TextError, Words, read_hex, read_name};
+use compared_rows::read_octets;
+use line_text::{HexText, TextError, Words, read_name};
 use message_notify::{
     NotifyOutcome, read_notify, read_notify_response, write_notify, write_notify_response,
 };
 use std::alloc::Global;
-
-/// Reads octets: hex, or `-` for none.
-fn read_octets(alloc: Global, words: &mut Words<'_>) -> Result<Vec<u8>, TextError> {
-    let word = words.take_needed()?;
-    match read_hex(alloc, word)? {
-        Some(octets) => Ok(octets),
-        None => Err(TextError::BadText),
-    }
-}
 
 /// A NOTIFY, written.
 pub fn notify_answer(alloc: Global, mut words: Words<'_>) -> Result<String, TextError> {
