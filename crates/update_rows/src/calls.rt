@@ -2,11 +2,15 @@
 
 use crate::messages::{message_answer, response_answer};
 use crate::policy::{permit_answer, read_rule, unsigned_answer};
+use crate::replies::{reply_answer, scarce_reply_answer, unsigned_reply_answer};
 use crate::signing::{denials_answer, overtaken_answer, sign_answer, signed_update_answer};
-use crate::updating::{ask_answer, back_answer, scarce_answer, unsigned_ask_answer, update_answer};
+use crate::updating::{
+    ask_answer, back_answer, scarce_update_answer, unsigned_ask_answer, update_answer,
+};
 use crate::versions::since_answer;
+use compared_rows::Caller;
 use line_text::{TextError, Words, read_name, read_record};
-use std::alloc::{AllocError, Global};
+use std::alloc::Global;
 use update_policy::Rule;
 use zone_difference::Difference;
 use zone_history::Version;
@@ -30,9 +34,9 @@ pub struct Case {
     pub rules: Vec<Rule>,
 }
 
-impl Case {
+impl Caller for Case {
     /// A zone without records, of the root, and no rules.
-    pub fn new(alloc: Global) -> Case {
+    fn new(alloc: Global) -> Case {
         Case {
             origin: Name::root(alloc),
             zone: RecordMap::new(alloc),
@@ -42,35 +46,32 @@ impl Case {
             rules: Vec::new(alloc),
         }
     }
-}
 
-/// The answer to a call.
-pub fn answer(alloc: Global, case: &mut Case, call: &str) -> Result<String, AllocError> {
-    let (verb, words) = call.split_once(" ").unwrap_or((call, ""));
-    let made = match verb {
-        "origin" => origin_answer(alloc, case, words),
-        "record" => record_answer(alloc, case, words),
-        "update" => update_answer(alloc, case, words),
-        "ask" => ask_answer(alloc, case, words),
-        "ask-unsigned" => unsigned_ask_answer(alloc, case, words),
-        "back" => back_answer(alloc, case),
-        "denials" => denials_answer(alloc, case, words),
-        "sign" => sign_answer(alloc, case),
-        "signed-update" => signed_update_answer(alloc, case, words),
-        "overtaken" => overtaken_answer(alloc, case, words),
-        "since" => since_answer(alloc, case, words),
-        "scarce" => scarce_answer(alloc, case, words),
-        "rule" => rule_answer(alloc, case, words),
-        "message" => message_answer(alloc, words),
-        "response" => response_answer(alloc, words),
-        "permit" => permit_answer(alloc, case.rules.as_slice(), words),
-        "permit-unsigned" => unsigned_answer(alloc, case.rules.as_slice(), words),
-        _ => Err(TextError::BadText),
-    };
-    match made {
-        Ok(text) => Ok(text),
-        Err(TextError::BadText) => format!(in alloc; "a row that can't be read"),
-        Err(TextError::Memory) => Err(AllocError),
+    fn answer(&mut self, alloc: Global, call: &str) -> Result<String, TextError> {
+        let (verb, words) = call.split_once(" ").unwrap_or((call, ""));
+        match verb {
+            "origin" => origin_answer(alloc, self, words),
+            "record" => record_answer(alloc, self, words),
+            "update" => update_answer(alloc, self, words),
+            "ask" => ask_answer(alloc, self, words),
+            "ask-unsigned" => unsigned_ask_answer(alloc, self, words),
+            "reply" => reply_answer(alloc, self, words),
+            "reply-unsigned" => unsigned_reply_answer(alloc, self, words),
+            "scarce-reply" => scarce_reply_answer(alloc, self, words),
+            "back" => back_answer(alloc, self),
+            "denials" => denials_answer(alloc, self, words),
+            "sign" => sign_answer(alloc, self),
+            "signed-update" => signed_update_answer(alloc, self, words),
+            "overtaken" => overtaken_answer(alloc, self, words),
+            "since" => since_answer(alloc, self, words),
+            "scarce" => scarce_update_answer(alloc, self, words),
+            "rule" => rule_answer(alloc, self, words),
+            "message" => message_answer(alloc, words),
+            "response" => response_answer(alloc, words),
+            "permit" => permit_answer(alloc, self.rules.as_slice(), words),
+            "permit-unsigned" => unsigned_answer(alloc, self.rules.as_slice(), words),
+            _ => Err(TextError::BadText),
+        }
     }
 }
 

@@ -19,6 +19,9 @@
 //! - `rule grant|deny KEY SCOPE NAME TYPE ..` adds a rule to a table; the scopes are `name`, `subdomain`, `own-name` and `own-subdomain`;
 //! - `ask KEY ENTRY; ..` makes an update where the table of rules permits it to who has a key, `ask-unsigned ENTRY; ..` to who has none: as
 //!   `update`;
+//! - `reply KEY HEX` answers octets of who has a key, `reply-unsigned HEX` of who has none: the octets of the response in hex, and where the
+//!   update is made what `update` tells; or `no update`. `scarce-reply KEY HEX` does the same with no memory left, and then with a little more
+//!   each time: whether memory was refused, and the code in the end;
 //! - `permit KEY NAME TYPE` asks whether who has a key may change the sets of a name and a type, `permit-unsigned NAME TYPE` whether who
 //!   has none may;
 //! - `message HEX ZONE ENTRY; ..` asks whether octets are an update of a zone with these entries, `response HEX CODE` for the octets of the
@@ -29,19 +32,15 @@ mod calls;
 mod entries;
 mod messages;
 mod policy;
-mod rows;
+mod replies;
 mod signing;
 mod updating;
 mod versions;
 
-use std::{fs, io};
+use calls::Case;
+use compared_rows::report_files;
+use std::io;
 
 fn main(rt: HostRuntime) -> io::Result<()> {
-    for file in rt.lines(rt.alloc()) {
-        let file = file?;
-        let text = fs::read_to_string(&rt, file.as_str())?;
-        let report = rows::report(rt.alloc(), text.as_str())?;
-        println!(rt; "{file}: {report}")?;
-    }
-    Ok(())
+    report_files::<Case>(&rt)
 }

@@ -1,7 +1,8 @@
 //! Messages of updates, and what they say.
 
 use crate::entries::read_update;
-use line_text::{HexText, TextError, Words, read_hex, read_name};
+use compared_rows::{octets_of, read_octets};
+use line_text::{HexText, TextError, Words, read_name};
 use std::alloc::Global;
 use update_message::{UpdateError, read_update as read_message, write_response};
 use zone_update::{Content, Entry, Update};
@@ -10,7 +11,7 @@ use zone_update::{Content, Entry, Update};
 pub fn message_answer(alloc: Global, words: &str) -> Result<String, TextError> {
     let (octets, left) = words.split_once(" ").ok_or(TextError::BadText)?;
     let (zone, entries) = left.split_once(" ").unwrap_or((left, ""));
-    let octets = read_octets(alloc, octets)?;
+    let octets = octets_of(alloc, octets)?;
     let zone = read_name(alloc, &mut Words::new(zone.as_bytes()))?;
     let update = match read_message(alloc, octets.as_slice()) {
         Ok(update) => update,
@@ -39,7 +40,7 @@ pub fn message_answer(alloc: Global, words: &str) -> Result<String, TextError> {
 /// The response to a message in hex, with a code, in hex.
 pub fn response_answer(alloc: Global, words: &str) -> Result<String, TextError> {
     let mut words = Words::new(words.as_bytes());
-    let octets = read_hex(alloc, words.take_needed()?)?.ok_or(TextError::BadText)?;
+    let octets = read_octets(alloc, &mut words)?;
     let code = words.take_u16()?;
     words.end()?;
     let update = match read_message(alloc, octets.as_slice()) {
@@ -52,11 +53,6 @@ pub fn response_answer(alloc: Global, words: &str) -> Result<String, TextError> 
     let mut out = Vec::new(alloc);
     write_response(&mut out, update.header, code as u8, update.has_extension)?;
     Ok(format!(in alloc; "{}", HexText(out.as_slice()))?)
-}
-
-/// Octets in hex.
-fn read_octets(alloc: Global, word: &str) -> Result<Vec<u8>, TextError> {
-    read_hex(alloc, word.as_bytes())?.ok_or(TextError::BadText)
 }
 
 /// The word for why a message isn't read.

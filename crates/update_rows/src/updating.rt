@@ -3,7 +3,7 @@
 use crate::calls::Case;
 use crate::entries::read_update;
 use crate::versions::add_version;
-use alloc_failures::Scarcity;
+use alloc_failures::scarce_answer;
 use line_text::{RecordText, TextError, Words, read_name};
 use std::alloc::{AllocError, Global};
 use update_permission::updated_if_permitted;
@@ -11,12 +11,6 @@ use zone_difference::{Difference, applied, copied, difference_between};
 use zone_map::RecordMap;
 use zone_proto::{LowerName, Record, RecordSet};
 use zone_update::{Refusal, updated};
-
-/// How many rooms are tried before a call has to succeed.
-const ATTEMPTS: usize = 400;
-
-/// How many octets more each room has.
-const STEP: usize = 32;
 
 /// Updates the zone: the code, and what is taken out and given.
 pub fn update_answer(alloc: Global, case: &mut Case, text: &str) -> Result<String, TextError> {
@@ -57,7 +51,7 @@ fn ask_by(
 }
 
 /// Takes the zone after an update: the code, and what is taken out and given.
-fn exchange(
+pub fn exchange(
     alloc: Global,
     case: &mut Case,
     made: Result<RecordMap, Refusal>,
@@ -161,17 +155,9 @@ pub fn back_answer(alloc: Global, case: &mut Case) -> Result<String, TextError> 
 }
 
 /// Whether an update was refused memory, and its code in the end.
-pub fn scarce_answer(alloc: Global, case: &Case, text: &str) -> Result<String, TextError> {
+pub fn scarce_update_answer(alloc: Global, case: &Case, text: &str) -> Result<String, TextError> {
     let origin = LowerName::new(&case.origin)?;
-    let mut scarce = Scarcity::new(alloc)?;
-    scarce.begin(ATTEMPTS)?;
-    let given = scarce.until_given(STEP, || code_of(alloc, &origin, &case.zone, text));
-    scarce.end();
-    Ok(match given {
-        None => format!(in alloc; "refused")?,
-        Some((0, word)) => format!(in alloc; "never refused, {word}")?,
-        Some((_, word)) => format!(in alloc; "refused, then {word}")?,
-    })
+    Ok(scarce_answer(alloc, || code_of(alloc, &origin, &case.zone, text))?)
 }
 
 /// The code of an update; none if memory is refused.
