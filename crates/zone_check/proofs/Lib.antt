@@ -1,2 +1,3 @@
 pub mod SameSets
 pub mod Served
+pub mod ToldSets

@@ -1,5 +1,5 @@
 -- Whether a zone is ready to be published
-use Rattle.std.specs.Prelude.{◌≡◌, ℕ, Bool, true, List, [], map, Option, Some, None, unwrap_or}
+use Rattle.std.specs.Prelude.{◌≡◌, ◌&&◌, ℕ, Bool, true, List, [], map, Option, Some, None, unwrap_or}
 use Rattle.std.specs.List.{list_all}
 use Rattle.zone_proto.specs.Names.{Name, lower}
 use Rattle.zone_map.specs.Zones.{Sets}
@@ -15,11 +15,13 @@ use Rattle.zone_publication.specs.declared.dates.Period.{Period}
 use Rattle.zone_publication.specs.declared.finding.Finding.{Finding}
 use Rattle.zone_publication.specs.Findings.{findings}
 use Rattle.zone_publication.specs.Warnings.{is_allowed}
+use Rattle.zone_check.specs.Digests.{are_digests_right}
 
--- nothing that is found of it at a moment is a fault, with hosts strictly judged or not; where no moment is given, nothing is asked
+-- nothing that is found of it at a moment is a fault, with hosts strictly judged or not, and its ZONEMD records are right; where no
+-- moment is given, nothing is asked
 abbrev pub is_ready : Bool → Option Period → Name → Sets → Bool
 is_ready strict None origin m = true
-is_ready strict (Some period) origin m = list_all (λ (f : Finding). is_allowed strict f.what) (findings origin period m)
+is_ready strict (Some period) origin m = list_all (λ (f : Finding). is_allowed strict f.what) (findings origin period m) && are_digests_right origin m
 
 -- what has the status 0 unless it is printed: a zone of these records can be made, and it is ready
 pub record IsFit (strict : Bool) (period : Option Period) (origin : Name) (gs : List GivenRecord) : Type 0 where

@@ -4,6 +4,7 @@
 
 mod checking;
 mod denial;
+mod digests;
 mod publication;
 mod reporting;
 mod wanted;

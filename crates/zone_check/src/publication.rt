@@ -6,7 +6,8 @@ ghost use Rattle.zone_publication.specs.Findings.{findings};
 ghost use Rattle.zone_publication.specs.Warnings.{is_allowed};
 ghost use Rattle.zone_check.specs.Publications.{is_ready};
 
-use crate::reporting::{Warning, tell_at, tell_more};
+use crate::digests::tell_digests;
+use crate::reporting::{Warning, tell, tell_at, tell_more};
 use crate::wanted::Wanted;
 use std::alloc::Global;
 use std::io::Write;
@@ -15,7 +16,7 @@ use zone_publication::{Finding, check};
 use zone_texts::Sources;
 
 /// Tells what is found of a zone at a moment, if one is given, and gives whether it is ready to be published: nothing that is found is
-/// a fault. None if there isn't enough memory.
+/// a fault, and its ZONEMD records are right. None if that can't be told, and why.
 pub fn tell_publication<E: Write>(
     alloc: Global,
     wanted: &Wanted<'_>,
@@ -30,10 +31,13 @@ pub fn tell_publication<E: Write>(
     let Some(period) = wanted.period else {
         return Some(true);
     };
-    match check(alloc, &loaded.records, &loaded.origin, period) {
-        Ok(found) => Some(tell_findings(wanted, sources, found.as_slice(), fault)),
-        Err(_) => None,
-    }
+    let Ok(found) = check(alloc, &loaded.records, &loaded.origin, period) else {
+        tell(fault, b"out of memory\n");
+        return None;
+    };
+    let is_allowed = tell_findings(wanted, sources, found.as_slice(), fault);
+    let are_right = tell_digests(alloc, sources, loaded, fault)?;
+    Some(is_allowed && are_right)
 }
 
 /// Tells what was found, each of the faults and as many warnings as are wanted, and gives whether all are warnings.

@@ -93,7 +93,7 @@ fn tell_loaded<W: Write, E: Write>(
         return tell(fault, b"out of memory\n");
     };
     let Some(is_ready) = tell_publication(alloc, wanted, sources, loaded, fault) else {
-        return tell(fault, b"out of memory\n");
+        return 2;
     };
     let summary = Summary {
         origin: &loaded.origin,
