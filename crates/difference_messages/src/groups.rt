@@ -1,14 +1,14 @@
 //! The records of steps, each by itself.
 ghost use Rattle.std.specs.Prelude.{◌≡◌, ◌++◌, map, IfOk, OnOk};
 ghost use Rattle.std.specs.List.{flat_map};
-ghost use Rattle.message_writing.specs.Responses.{all_records, with_ttl};
+ghost use Rattle.message_writing.specs.Responses.{all_records};
 ghost use Rattle.shown_zones.specs.Sending.{sent, sent_alone, sent_step, sent_steps};
 ghost use Rattle.shown_zones.specs.Steps.{step_of};
 
-use message_writing::Group;
+use message_writing::{Group, push_records};
 use shown_zones::ZoneStep;
 use std::alloc::{AllocError, Global};
-use zone_proto::{Record, RecordSet};
+use zone_proto::RecordSet;
 
 /// The records of steps between two SOA records of the newest version (RFC 1995 section 4), each by itself, so that a message may end behind any
 /// of them: of each step the older SOA and what is deleted, the newer SOA and what is added; of each set the records and then its
@@ -78,23 +78,4 @@ fn push_alone<'s>(groups: &mut Vec<Group<'s>>, set: &'s RecordSet) -> Result<(),
         (all_records groups.new.items ≡ all_records groups.old.items ++ sent_alone set.now) }
 {
     push_records(groups, set.as_slice(), set.ttl())
-}
-
-/// Appends records with a TTL.
-fn push_records<'s>(
-    groups: &mut Vec<Group<'s>>,
-    records: &'s [Record],
-    ttl: u32,
-) -> Result<(), AllocError>
-    ensures { OnOk result (all_records groups.new.items
-        ≡ all_records groups.old.items ++ map (with_ttl ttl) records.now) }
-{
-    for record in records {
-        groups.push(Group {
-            records: std::slice::from_ref(record),
-            signatures: &[],
-            ttl,
-        })?;
-    }
-    Ok(())
 }

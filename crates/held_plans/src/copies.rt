@@ -1,11 +1,10 @@
 //! Copies of the sets of a zone.
-ghost use Rattle.std.specs.Prelude.{◌≡◌, ◌&&◌, not, IfOk, IsOkUnless, OnOk};
-ghost use Rattle.zone_map.specs.Zones.{put, IsStoredAt};
+ghost use Rattle.std.specs.Prelude.{◌≡◌, ◌&&◌, not, IfOk, IsOkUnless};
 ghost use Rattle.held_plans.specs.Copies.{copied, is_made, unsigned};
 
 use std::alloc::Global;
-use zone_map::RecordMap;
-use zone_proto::{ProtoError, RecordSet, RecordType, RrKey};
+use zone_map::{RecordMap, put_copy};
+use zone_proto::{ProtoError, RecordType};
 
 /// The sets of a zone without those that are made anew where it is signed: signatures, denials and keys. Its only error is `Memory`.
 pub(crate) fn unsigned(alloc: Global, records: &RecordMap) -> Result<RecordMap, ProtoError>
@@ -54,17 +53,4 @@ fn is_made(record_type: RecordType) -> bool
         || record_type == RecordType::NSEC3
         || record_type == RecordType::NSEC3PARAM
         || record_type == RecordType::DNSKEY
-}
-
-/// Stores a copy of a set under its key.
-fn put_copy(sets: &mut RecordMap, key: &RrKey, set: &RecordSet) -> Result<(), ProtoError>
-    requires { IsStoredAt key.now.name key.now.record_type.0 set.now }
-    ensures ok { OnOk result
-        (sets.new ≡ put sets.old key.now.name key.now.record_type.0 set.now) }
-    ensures err { IsOkUnless result ProtoError.Memory }
-{
-    match sets.put(key.clone()?, set.clone()?) {
-        Ok(_) => Ok(()),
-        Err(_) => Err(ProtoError::Memory),
-    }
 }

@@ -1,14 +1,11 @@
 //! A zone that is being sent, held.
-ghost use Rattle.std.specs.Prelude.{◌≡◌, IfOk};
-ghost use Rattle.zone_proto.specs.Keys.{key as key_at};
-ghost use Rattle.zone_proto.specs.Types.{SOA};
 ghost use Rattle.held_transfers.specs.Holding.{GoesOnHeld};
 
 use std::alloc::{AllocError, Global};
 use std::sync::Arc;
 use transfer_messages::OpenTransfer;
 use zone_database::Zone;
-use zone_proto::{LowerName, ProtoError, RecordType, RrKey};
+use zone_server::soa_key;
 
 /// A zone that is being sent. It is shared with the database from which it is sent, as it was when that began.
 #[derive(Drop)]
@@ -39,11 +36,4 @@ impl HeldTransfer {
             }
         }
     }
-}
-
-/// The key of the SOA set of an origin.
-fn soa_key(origin: &LowerName) -> Result<RrKey, ProtoError>
-    ensures { IfOk result (λ key. key ≡ key_at origin.now SOA) }
-{
-    Ok(RrKey::new(origin.clone()?, RecordType::SOA))
 }

@@ -1,13 +1,10 @@
 -- NOTIFY messages and their responses as octets (RFC 1996 section 3)
-use Rattle.std.specs.Prelude.{ℕ, ◌/◌, ◌%◌, List, [], ◌∷◌, ◌++◌}
+use Rattle.std.specs.Prelude.{ℕ, List, [], ◌∷◌, ◌++◌}
 use Rattle.zone_proto.specs.Names.{Name, lower, wire_form}
+use Rattle.message_writing.specs.DataText.{short_text}
 use Rattle.message_notify.specs.declared.notify.Notify.{Notify}
 use Rattle.message_notify.specs.declared.notify.NotifyOutcome.{NotifyOutcome}
 use Rattle.message_notify.specs.declared.notify.NotifyOutcome.TheVariants.{Taken, NotAuthoritative, Refused}
-
--- a number of 16 bits, the high octet first (RFC 1035 section 2.3.2)
-abbrev pub short_text : ℕ → List ℕ
-short_text n = (n / 256) ∷ (n % 256) ∷ []
 
 -- the counts of one question and no record, and the question for the SOA record of a zone of class IN
 abbrev pub question_text : Name → List ℕ

@@ -1,9 +1,10 @@
 //! NOTIFY messages and their responses, written.
 ghost use Rattle.std.specs.Prelude.{◌≡◌, ◌++◌, IfOk, OnOk};
-ghost use Rattle.message_notify.specs.Texts.{code_of, high_octet_of, notify_text, question_text, response_text, short_text};
+ghost use Rattle.message_notify.specs.Texts.{code_of, high_octet_of, notify_text, question_text, response_text};
 
 use crate::notify::{Notify, NotifyOutcome};
-use std::alloc::{AllocError, Global};
+use message_writing::push_short;
+use std::alloc::Global;
 use zone_proto::{Name, ProtoError};
 
 /// The octets of a NOTIFY for the zone of an origin, of class IN: opcode 4, AA, and the question for its SOA record, with no hint (RFC 1996
@@ -54,15 +55,6 @@ fn code_of(outcome: NotifyOutcome) -> u8
         NotifyOutcome::NotAuthoritative => 9,
         NotifyOutcome::Refused => 5,
     }
-}
-
-/// Appends a number of 16 bits, the high octet first.
-fn push_short(out: &mut Vec<u8>, number: u16) -> Result<(), AllocError>
-    ensures { OnOk result (out.new.items ≡ out.old.items ++ short_text number) }
-{
-    out.push((number / 256) as u8)?;
-    out.push((number % 256) as u8)?;
-    Ok(())
 }
 
 /// Appends the counts of one question and no record, and the question for the SOA record of a zone.

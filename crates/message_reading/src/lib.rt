@@ -36,6 +36,7 @@ pub use header::Header;
 pub use header_reader::read_header;
 pub use message::Message;
 pub use message_reader::{read_first_authority, read_message};
+pub use name_octets::lead;
 pub use names::{name_of, plain_name_of};
 pub use octets::{long_of, octet_of, octets_of, offset_of, short_of};
 pub use query::{Extension, Query};

@@ -64,8 +64,9 @@ pub(crate) fn name_octets<'o>(
     Ok(None)
 }
 
-/// Where the pointer leads whose first octet this is, and what follows it.
-fn lead(before: usize, high: u8, rest: &[u8]) -> Option<(usize, &[u8])>
+/// Where a pointer leads, before an offset and behind the header, by its first octet and by what follows that, and what follows it (RFC
+/// 1035 section 4.1.4). None if it leads elsewhere, or if its second octet is missing.
+pub fn lead(before: usize, high: u8, rest: &[u8]) -> Option<(usize, &[u8])>
     requires { 192 ≤ high }
     ensures { option_map (λ x. (x.0, x.1.now)) result ≡ lead before high rest.now }
 {

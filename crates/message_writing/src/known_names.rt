@@ -1,10 +1,10 @@
 //! Names that a message has already, to which a pointer may lead (RFC 1035 section 4.1.4).
-ghost use Rattle.std.specs.Prelude.{◌≡◌, ◌≤◌, ◌<◌, ◌∷◌, ◌++◌, IsTrue, IfSome, length, option_map};
+ghost use Rattle.std.specs.Prelude.{◌≡◌, ◌≤◌, ◌<◌, ◌∷◌, ◌++◌, IsTrue, IfSome, length};
 ghost use Rattle.message_writing.specs.KnownNames.{IsKnown, StandsAt};
-ghost use Rattle.message_reading.specs.MessageNames.{lead};
 
 use crate::fingerprints::Fingerprint;
 use crate::hints::Hint;
+use message_reading::lead;
 use zone_proto::Labels;
 
 /// The first of these offsets at which these labels stand, followed by nothing else. The offsets are hints: those with the
@@ -83,18 +83,4 @@ fn after_label<'o>(octets: &'o [u8], label: &[u8]) -> Option<&'o [u8]>
     }
     let (front, after) = rest.split_at(label.len());
     if *front == *label { Some(after) } else { None }
-}
-
-/// Where the pointer leads whose first octet this is, before an offset, and what follows it.
-fn lead(before: usize, high: u8, rest: &[u8]) -> Option<(usize, &[u8])>
-    requires { 192 ≤ high }
-    ensures { option_map (λ x. (x.0, x.1.now)) result ≡ lead before high rest.now }
-{
-    let (low, after) = rest.split_first()?;
-    let target = usize::from(high - 192) * 256 + usize::from(*low);
-    if target >= 12 && target < before {
-        Some((target, after))
-    } else {
-        None
-    }
 }

@@ -20,14 +20,17 @@ mod plain_data;
 mod record_writer;
 mod response;
 mod response_writer;
+mod singles;
 mod type_map;
 mod whole_response;
 mod writable;
 
 pub use error::WriteError;
 pub use front_writer::write_front;
+pub use numbers::{push_long, push_short};
 pub use plain_data::push_plain_data;
 pub use response::{Group, Response, ResponseHead, Section};
 pub use response_writer::ResponseWriter;
+pub use singles::push_records;
 pub use type_map::push_types;
 pub use whole_response::write_response;

@@ -4,8 +4,8 @@ ghost use Rattle.message_writing.specs.DataText.{short_text, long_text};
 
 use std::alloc::AllocError;
 
-/// Appends a number of 16 bits, the high octet first.
-pub(crate) fn push_short(out: &mut Vec<u8>, number: u16) -> Result<(), AllocError>
+/// Appends a number of 16 bits, the high octet first (RFC 1035 section 2.3.2). Refused for lack of memory.
+pub fn push_short(out: &mut Vec<u8>, number: u16) -> Result<(), AllocError>
     ensures { OnOk result (out.new.items ≡ out.old.items ++ short_text number) }
 {
     out.push((number / 256) as u8)?;
@@ -33,8 +33,8 @@ pub(crate) fn push_pointer(out: &mut Vec<u8>, offset: u16) -> Result<(), AllocEr
     Ok(())
 }
 
-/// Appends a number of 32 bits, the high half first.
-pub(crate) fn push_long(out: &mut Vec<u8>, number: u32) -> Result<(), AllocError>
+/// Appends a number of 32 bits, the high octet first (RFC 1035 section 2.3.2). Refused for lack of memory.
+pub fn push_long(out: &mut Vec<u8>, number: u32) -> Result<(), AllocError>
     ensures { OnOk result (out.new.items ≡ out.old.items ++ long_text number) }
 {
     push_short(out, (number / 65536) as u16)?;

@@ -1,12 +1,12 @@
 //! A response put out again, behind the header for another query.
 ghost use Rattle.std.specs.Prelude.{◌≡◌, ℕ, ◌++◌, ◌%◌, ◌<◌, false, IsTrue, IfOk, OnOk};
-ghost use Rattle.message_writing.specs.DataText.{short_text};
 ghost use Rattle.message_writing.specs.HeaderText.{header_text, high_text, low_text, weight_if};
 ghost use Rattle.message_writing.specs.Responses.{IsWritten};
 ghost use Rattle.message_writing.specs.declared.response.Response.{Response};
 ghost use Rattle.ready_answers.specs.Again.{IsAskedAgain};
 
 use message_reading::{Header, Query, read_header};
+use message_writing::push_short;
 use std::alloc::AllocError;
 
 /// How many octets a header has (RFC 1035 section 4.1.1).
@@ -69,13 +69,4 @@ fn weight(set: bool, of: u8) -> u8
     ensures small { result < 17 }
 {
     if set { of } else { 0 }
-}
-
-/// Appends a number of 16 bits, the high octet first (RFC 1035 section 2.3.2).
-fn push_short(out: &mut Vec<u8>, number: u16) -> Result<(), AllocError>
-    ensures { OnOk result (out.new.items ≡ out.old.items ++ short_text number) }
-{
-    out.push((number / 256) as u8)?;
-    out.push((number % 256) as u8)?;
-    Ok(())
 }

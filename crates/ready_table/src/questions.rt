@@ -1,5 +1,6 @@
 //! Queries as they come, for what is asked at loading, and where a table is searched for one.
 
+use message_writing::push_short;
 use std::alloc::AllocError;
 use zone_proto::{DNSClass, LowerName, RecordType};
 
@@ -71,11 +72,4 @@ fn push_opt(out: &mut Vec<u8>, size: u16, dnssec_ok: bool) -> Result<(), AllocEr
     out.extend_from_slice(&[0, 0, 41])?;
     push_short(out, size)?;
     out.extend_from_slice(&[0, 0, flags, 0, 0, 0])
-}
-
-/// Appends a number of 16 bits, the high octet first (RFC 1035 section 2.3.2).
-fn push_short(out: &mut Vec<u8>, number: u16) -> Result<(), AllocError> {
-    out.push((number / 256) as u8)?;
-    out.push((number % 256) as u8)?;
-    Ok(())
 }

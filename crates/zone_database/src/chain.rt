@@ -1,13 +1,12 @@
 //! The sets in which a zone's denials are looked up, where it has NSEC or NSEC3 sets of several chains.
-ghost use Rattle.std.specs.Prelude.{◌≡◌, IfOk, IsOkUnless, OnOk, option_copied};
-ghost use Rattle.zone_map.specs.Zones.{put, IsStoredAt};
+ghost use Rattle.std.specs.Prelude.{◌≡◌, IfOk, IsOkUnless, option_copied};
 ghost use Rattle.zone_denial.specs.Chains.{chain_sets};
 ghost use Rattle.zone_database.specs.ChainsBeside.{chain_beside, has_others};
 
 use std::alloc::Global;
 use zone_denial::chain_sets::stays;
-use zone_map::RecordMap;
-use zone_proto::{NxProofKind, ProtoError, RecordSet, RrKey};
+use zone_map::{RecordMap, put_copy};
+use zone_proto::{NxProofKind, ProtoError};
 
 /// A zone's sets without the NSEC and NSEC3 sets that don't belong to the chain by which it denies: those of another
 /// chain, or of the remains of one, with which a proof mustn't be mixed (RFC 5155 section 7.3). None if it has none of
@@ -57,17 +56,4 @@ fn chain_sets(
         }
     }
     Ok(chain)
-}
-
-/// Stores a copy of a set under its key.
-fn put_copy(sets: &mut RecordMap, key: &RrKey, set: &RecordSet) -> Result<(), ProtoError>
-    requires { IsStoredAt key.now.name key.now.record_type.0 set.now }
-    ensures ok { OnOk result
-        (sets.new ≡ put sets.old key.now.name key.now.record_type.0 set.now) }
-    ensures err { IsOkUnless result ProtoError.Memory }
-{
-    match sets.put(key.clone()?, set.clone()?) {
-        Ok(_) => Ok(()),
-        Err(_) => Err(ProtoError::Memory),
-    }
 }

@@ -1,9 +1,9 @@
 //! Which sets of denial belong to the chain by which a zone denies.
 ghost use Rattle.std.specs.Prelude.{◌≡◌, option_copied};
-ghost use Rattle.zone_map.specs.Upserts.{is_denial_type};
 ghost use Rattle.zone_denial.specs.Chains.{has_parameters, is_of_chain, stays};
 ghost use Rattle.zone_denial.specs.Nsec3Circle.{first_nsec3};
 
+use zone_map::is_denial_type;
 use zone_proto::{NSEC3, NxProofKind, RData, RecordSet, RecordType};
 
 /// Whether a set of a type stays where only those of the chain deny by which a zone of this kind denies: it is no NSEC or NSEC3
@@ -12,13 +12,6 @@ pub fn stays(kind: Option<&NxProofKind>, record_type: RecordType, set: &RecordSe
     ensures { result ≡ stays (option_copied kind.entry) record_type.0 set.now }
 {
     !is_denial_type(record_type) || is_of_chain(kind, record_type, set)
-}
-
-/// Whether a type is NSEC or NSEC3.
-fn is_denial_type(record_type: RecordType) -> bool
-    ensures { result ≡ is_denial_type record_type.0 }
-{
-    record_type == RecordType::NSEC || record_type == RecordType::NSEC3
 }
 
 /// Whether a set of denial belongs to the chain of a zone that denies so.

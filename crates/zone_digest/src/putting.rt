@@ -1,7 +1,7 @@
 //! The ZONEMD set of a zone, put into it.
 ghost use Rattle.std.specs.Prelude.{◌≡◌, ◌≢◌, ◌⊎◌, [], true, false, Some, OnOk, OnErr, IfOk, IfErr, IsOkUnless};
 ghost use Rattle.zone_proto.specs.Sets.{RRset};
-ghost use Rattle.zone_proto.specs.Types.{SOA as soa_type, has_own_case};
+ghost use Rattle.zone_proto.specs.Types.{SOA as soa_type};
 ghost use Rattle.zone_map.specs.Zones.{owns, put, set_at};
 ghost use Rattle.zone_planning.specs.Faults.{IsUnwritableUnless};
 ghost use Rattle.zone_digest.specs.Faults.{IsDigestibleZone};
@@ -13,10 +13,8 @@ use crate::zone_text::ZONEMD;
 use std::alloc::Global;
 use zone_lookup::start_of_authority::first_soa;
 use zone_map::RecordMap;
-use zone_planning::PlanFault;
-use zone_proto::{
-    LowerName, Name, OtherData, ProtoError, RData, Record, RecordSet, RecordType, RrKey, Signer,
-};
+use zone_planning::{PlanFault, other_data};
+use zone_proto::{LowerName, Name, ProtoError, Record, RecordSet, RecordType, RrKey, Signer};
 use zone_signing::signatures::sign_set;
 
 /// Puts the ZONEMD set of the zone of an origin into it, in place of one that stands there: one record, with the zone's digest by an
@@ -101,19 +99,6 @@ fn zonemd_set(
         serial,
     )?;
     Ok(set)
-}
-
-/// Data of a type without a case of its own.
-fn other_data(record_type: RecordType, octets: Vec<u8>) -> RData
-    requires { has_own_case record_type.0 ≡ false }
-    ensures { (other : has_own_case record_type.0 ≡ false)
-        → result
-        ≡ RData.Other (record { record_type = record_type; octets = octets.items; other = other }) }
-{
-    let Some(other) = OtherData::new(record_type, octets) else {
-        unreachable!();
-    };
-    RData::Other(other)
 }
 
 /// Puts a ZONEMD set of the origin into a zone. Its only error is `Memory`, which leaves the zone as it was.

@@ -1,15 +1,15 @@
 //! The records of a step, each by itself, so that a message may end behind any of them.
-ghost use Rattle.std.specs.Prelude.{◌≡◌, ◌++◌, map, IfOk, OnOk};
-ghost use Rattle.message_writing.specs.Responses.{all_records, with_ttl};
+ghost use Rattle.std.specs.Prelude.{◌≡◌, ◌++◌, IfOk, OnOk};
+ghost use Rattle.message_writing.specs.Responses.{all_records};
 ghost use Rattle.std.specs.List.{All, AllByRecursion, flat_map};
 ghost use Rattle.shown_zones.specs.Steps.{step_of};
 ghost use Rattle.zone_journal.specs.Grouping.{sent, sent_sets, sent_step};
 ghost use Rattle.zone_journal.specs.Writing.{IsSound};
 
-use message_writing::Group;
+use message_writing::{Group, push_records};
 use shown_zones::ZoneStep;
 use std::alloc::{AllocError, Global};
-use zone_proto::{Record, RecordSet};
+use zone_proto::RecordSet;
 
 /// The records of a step, each by itself.
 pub(crate) fn groups_of(alloc: Global, step: &ZoneStep) -> Result<Vec<Group<'_>>, AllocError>
@@ -45,23 +45,4 @@ fn push_set<'s>(groups: &mut Vec<Group<'s>>, set: &'s RecordSet) -> Result<(), A
 {
     push_records(groups, set.as_slice(), set.ttl())?;
     push_records(groups, set.rrsigs(), set.ttl())
-}
-
-/// Appends records with a TTL.
-fn push_records<'s>(
-    groups: &mut Vec<Group<'s>>,
-    records: &'s [Record],
-    ttl: u32,
-) -> Result<(), AllocError>
-    ensures { OnOk result (all_records groups.new.items
-        ≡ all_records groups.old.items ++ map (with_ttl ttl) records.now) }
-{
-    for record in records {
-        groups.push(Group {
-            records: std::slice::from_ref(record),
-            signatures: &[],
-            ttl,
-        })?;
-    }
-    Ok(())
 }

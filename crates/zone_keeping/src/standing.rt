@@ -1,11 +1,11 @@
 //! Signatures that stand in a plan, handed over to be verified.
 ghost use Rattle.std.specs.Prelude.{◌≡◌, ◌++◌, OnOk, IfErr};
-ghost use Rattle.message_writing.specs.DataText.{short_text, long_text};
 ghost use Rattle.zone_planning.specs.Faults.{IsUnwritableUnless};
 ghost use Rattle.zone_planning.specs.SignedData.{signed_data};
 ghost use Rattle.zone_keeping.specs.Faults.{AreVerifiable, IsVerifiable};
 ghost use Rattle.zone_keeping.specs.Standing.{end_text, standing_from, standing_of, standing_text, standing_texts};
 
+use message_writing::{push_long, push_short};
 use std::alloc::AllocError;
 use zone_planning::{PlanFault, blank_number, push_signed_data};
 use zone_proto::{RData, RRSIG, RecordSet};
@@ -57,23 +57,5 @@ fn push_one(out: &mut Vec<u8>, rrsig: &RRSIG, set: &RecordSet) -> Result<(), Pla
     out.extend_from_slice(octets.as_slice())?;
     push_short(out, signature.len() as u16)?;
     out.extend_from_slice(signature)?;
-    Ok(())
-}
-
-/// Appends a number of 16 bits, the high octet first.
-fn push_short(out: &mut Vec<u8>, number: u16) -> Result<(), AllocError>
-    ensures { OnOk result (out.new.items ≡ out.old.items ++ short_text number) }
-{
-    out.push((number / 256) as u8)?;
-    out.push((number % 256) as u8)?;
-    Ok(())
-}
-
-/// Appends a number of 32 bits, the high half first.
-fn push_long(out: &mut Vec<u8>, number: u32) -> Result<(), AllocError>
-    ensures { OnOk result (out.new.items ≡ out.old.items ++ long_text number) }
-{
-    push_short(out, (number / 65536) as u16)?;
-    push_short(out, (number % 65536) as u16)?;
     Ok(())
 }

@@ -7,6 +7,7 @@
 #![tactic(auto)]
 
 mod at_name;
+mod copies;
 mod counter;
 mod denial_index;
 mod denial_owners;
@@ -17,8 +18,9 @@ mod owner_index;
 mod record_map;
 pub mod wildcard;
 
+pub use copies::put_copy;
 pub use counter::{Counter, Reads, Searches};
 pub use denial_owners::{DenialOwners, LastOwners};
 pub use keys_ahead::KeysAhead;
 pub use new_sets::NewSets;
-pub use record_map::{RecordMap, Replaced};
+pub use record_map::{RecordMap, Replaced, is_denial_type};

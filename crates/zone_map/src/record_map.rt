@@ -322,8 +322,8 @@ fn none_clashes_after(record_type: RecordType, seen: RecordType) -> bool
     record_type != RecordType::CNAME && seen >= RecordType::CNAME
 }
 
-/// Whether a type is one of denial, which may be beside a CNAME.
-pub(crate) fn is_denial_type(record_type: RecordType) -> bool
+/// Whether a type is NSEC or NSEC3, which may stand beside a CNAME (RFC 4035 section 2.5).
+pub fn is_denial_type(record_type: RecordType) -> bool
     ensures { result ≡ is_denial_type record_type.0 }
 {
     record_type == RecordType::NSEC || record_type == RecordType::NSEC3

@@ -5,15 +5,12 @@ use Rattle.std.specs.List.{AllByRecursion}
 use Rattle.std.proofs.lemmas.Bool.Decides.{nat_tests}
 use Rattle.zone_proto.specs.declared.rdata.RData.{RData}
 use Rattle.zone_proto.specs.declared.rdata.RData.TheVariants as V
-use mathlib.Core.Bool.{Bool-set}
-use Rattle.zone_proto.specs.declared.rdata.other.OtherData.{OtherData}
-use Rattle.zone_proto.specs.declared.record_type.RecordType.{RecordType}
 use Rattle.zone_proto.specs.declared.rr_key.RrKey.{RrKey}
 use Rattle.zone_proto.specs.Data.{type_of}
 use Rattle.zone_proto.specs.Keys.{key, key_eq}
 use Rattle.zone_proto.specs.Names.{Name, IsName, lower}
 use Rattle.zone_proto.specs.Sets.{RRset, inserted}
-use Rattle.zone_proto.specs.Types.{has_own_case, IN}
+use Rattle.zone_proto.specs.Types.{IN}
 use Rattle.zone_proto.proofs.Ordering.KeyOrder.{key_same}
 use Rattle.zone_map.specs.Upserts.{clashes, set_for, upserted, with_record}
 use Rattle.zone_map.specs.Zones.{Sets, IsZone, owns, put, set_at}
@@ -96,11 +93,3 @@ module _ (origin : Name) (keys : List PlannedKey) (request : Request) (m : Sets)
 
   pub keyed_zone : IsName (lower origin) → IsZone m → IsZone (keyed origin keys request m)
   keyed_zone named zone = data_zone origin request.key_ttl _ m (flat_map (key_data origin) keys) named zone
-
--- ---- data without a case of their own
-
-pub other_same : (d : OtherData) (t : RecordType) (octets : List ℕ) → d.record_type ≡ t → d.octets ≡ octets → (own : has_own_case t.0 ≡ false)
-    → V.Other d ≡ V.Other (record { record_type = t; octets = octets; other = own })
-other_same d t octets e f =
-    let P : RecordType → Type 0 = λ t. (own : has_own_case t.0 ≡ false) → V.Other d ≡ V.Other (record { record_type = t; octets = octets; other = own }) in
-    subst P e (λ own i. V.Other (record { record_type = d.record_type; octets = f i; other = Bool-set (has_own_case d.record_type.0) false d.other own i }))

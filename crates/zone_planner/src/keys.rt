@@ -1,7 +1,7 @@
 //! The keys of a zone, and their records.
-ghost use Rattle.std.specs.Prelude.{◌≡◌, ◌≤◌, false, length, map, flat_map, unwrap_or, IfOk, OnOk, IsOkUnless};
+ghost use Rattle.std.specs.Prelude.{◌≡◌, ◌≤◌, length, map, flat_map, unwrap_or, IfOk, OnOk, IsOkUnless};
 ghost use Rattle.std.specs.List.{All};
-ghost use Rattle.zone_proto.specs.Types.{IN, has_own_case};
+ghost use Rattle.zone_proto.specs.Types.{IN};
 ghost use Rattle.zone_map.specs.Upserts.{upserted};
 ghost use Rattle.zone_planner.specs.Requests.{IsShort};
 ghost use Rattle.zone_planner.specs.Keys.{apex_record, by_flags, cdnskey_data, cds_data, key_data, with_data};
@@ -9,9 +9,8 @@ ghost use Rattle.zone_planner.specs.Keys.{apex_record, by_flags, cdnskey_data, c
 use std::alloc::Global;
 use zone_keys::{dnskey_data, ds_data, signs_keys, signs_others};
 use zone_map::RecordMap;
-use zone_proto::{
-    DNSClass, DNSKEY, LowerName, Name, OtherData, ProtoError, RData, Record, RecordType,
-};
+use zone_planning::other_data;
+use zone_proto::{DNSClass, DNSKEY, LowerName, Name, ProtoError, RData, Record, RecordType};
 
 /// A key of a zone, and what it does there.
 #[derive(Debug, Drop)]
@@ -141,17 +140,4 @@ fn cdnskey(origin: &LowerName, key: &DNSKEY) -> Result<RData, ProtoError>
     ensures err { IsOkUnless result ProtoError.Memory }
 {
     Ok(other_data(RecordType(60), dnskey_data(origin.alloc(), key)?))
-}
-
-/// Data of a type without a case of its own.
-fn other_data(record_type: RecordType, octets: Vec<u8>) -> RData
-    requires { has_own_case record_type.0 ≡ false }
-    ensures { (other : has_own_case record_type.0 ≡ false)
-        → result
-        ≡ RData.Other (record { record_type = record_type; octets = octets.items; other = other }) }
-{
-    let Some(other) = OtherData::new(record_type, octets) else {
-        unreachable!();
-    };
-    RData::Other(other)
 }

@@ -3,8 +3,9 @@ ghost use Rattle.std.specs.Prelude.{◌≡◌, ◌==◌, ◌||◌, true, false, 
 ghost use Rattle.std.specs.Option.{ForSome, IsSomeAnd};
 ghost use Rattle.zone_planner.specs.Zones.{is_cut, left_out};
 
-use crate::zone::{is_above, is_below};
+use crate::zone::is_below;
 use std::alloc::Global;
+use zone_denial::authoritative_keys::is_above;
 use zone_map::RecordMap;
 use zone_proto::{LowerName, ProtoError, RecordType, RrKey};
 

@@ -1,9 +1,10 @@
 //! Whether a zone can be planned.
 ghost use Rattle.std.specs.Prelude.{◌≡◌, ◌==◌, ◌⊎◌, None, Some, IfErr, OnOk, IfOk, IsOkUnless, option_map};
-ghost use Rattle.zone_proto.specs.Names.{is_above, is_at_or_above};
+ghost use Rattle.zone_proto.specs.Names.{is_at_or_above};
 ghost use Rattle.zone_proto.specs.Types.{SOA as soa_type};
 ghost use Rattle.zone_planner.specs.Zones.{apex_fault, below, is_made_type, set_fault_below, sets_fault, top_after, zone_fault};
 
+use zone_denial::authoritative_keys::is_above;
 use zone_map::RecordMap;
 use zone_planning::PlanFault;
 use zone_proto::{LowerName, Name, ProtoError, RecordType, RrKey};
@@ -109,13 +110,6 @@ pub(crate) fn is_below(top: Option<&LowerName>, name: &LowerName) -> bool
         Some(top) => is_above(top, name),
         None => false,
     }
-}
-
-/// Whether a name is a proper ancestor of another.
-pub(crate) fn is_above(ancestor: &LowerName, name: &LowerName) -> bool
-    ensures { result ≡ is_above ancestor.now name.now }
-{
-    ancestor.zone_of(name) && ancestor != name
 }
 
 /// Whether a name is another or above it.

@@ -7,7 +7,8 @@ ghost use Rattle.zone_planning.specs.SignedData.{signed_data};
 
 use crate::blank::single;
 use crate::fault::PlanFault;
-use crate::signed_data::{push_long, push_signed_data};
+use crate::signed_data::push_signed_data;
+use message_writing::push_long;
 use std::alloc::AllocError;
 use zone_proto::{RData, RRSIG, RecordSet};
 

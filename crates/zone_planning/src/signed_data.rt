@@ -1,12 +1,13 @@
 //! The octets that a signature is made of (RFC 4034 section 3.1.8.1).
 ghost use Rattle.std.specs.Prelude.{◌≡◌, ◌≤◌, ◌++◌, length, OnOk, IfErr, IsOkUnless};
-ghost use Rattle.message_writing.specs.DataText.{fixed_text, short_text, long_text};
+ghost use Rattle.message_writing.specs.DataText.{fixed_text};
 ghost use Rattle.zone_planning.specs.Canonical.{canonical_set};
 ghost use Rattle.zone_planning.specs.Faults.{AreShort, AreWritable, IsUnwritableUnless};
 ghost use Rattle.zone_planning.specs.SignedData.{front_text, record_text, records_text, set_text, signed_data};
 
 use crate::fault::PlanFault;
 use crate::ordering::canonical_set;
+use message_writing::{push_long, push_short};
 use std::alloc::AllocError;
 use zone_proto::{ProtoError, RRSIG, RecordSet, Seq};
 
@@ -111,23 +112,5 @@ fn push_record(
     push_long(out, ttl)?;
     push_short(out, octets.len() as u16)?;
     out.extend_from_slice(octets)?;
-    Ok(())
-}
-
-/// Appends a number of 16 bits, the high octet first.
-pub(crate) fn push_short(out: &mut Vec<u8>, number: u16) -> Result<(), AllocError>
-    ensures { OnOk result (out.new.items ≡ out.old.items ++ short_text number) }
-{
-    out.push((number / 256) as u8)?;
-    out.push((number % 256) as u8)?;
-    Ok(())
-}
-
-/// Appends a number of 32 bits, the high half first.
-pub(crate) fn push_long(out: &mut Vec<u8>, number: u32) -> Result<(), AllocError>
-    ensures { OnOk result (out.new.items ≡ out.old.items ++ long_text number) }
-{
-    push_short(out, (number / 65536) as u16)?;
-    push_short(out, (number % 65536) as u16)?;
     Ok(())
 }

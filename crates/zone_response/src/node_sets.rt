@@ -11,11 +11,10 @@ ghost use Rattle.zone_map.specs.Wildcards.{exists};
 ghost use Rattle.zone_map.specs.Zones.{set_at, IsZone};
 ghost use Rattle.zone_response.specs.NodeSets.{sets_from, StandsAt};
 
-use crate::query_types::is_denial_type;
 use std::collections::BTreeMap;
 use std::collections::btree_map::Range;
 use zone_lookup::InnerInMemory;
-use zone_map::Counter;
+use zone_map::{Counter, is_denial_type};
 use zone_proto::{LowerName, ProtoError, RecordSet, RecordType, RrKey, Signer};
 
 /// The sets of three types that are at a name: NS, and two that are asked for; and the first key from the name's least

@@ -1,6 +1,5 @@
 //! Types that are treated apart.
 ghost use Rattle.std.specs.Prelude.{◌≡◌, ◌==◌, ◌||◌};
-ghost use Rattle.zone_map.specs.Upserts.{is_denial_type};
 ghost use Rattle.zone_proto.specs.Types.{RRSIG, ANY};
 ghost use Rattle.zone_response.specs.QueryTypes.{is_no_data};
 
@@ -12,13 +11,6 @@ pub(crate) fn is_no_data(record_type: RecordType) -> bool
 {
     let RecordType(number) = record_type;
     number == 0 || number == 41 || (128 <= number && number <= 254)
-}
-
-/// Whether a type is one of denial.
-pub(crate) fn is_denial_type(record_type: RecordType) -> bool
-    ensures { result ≡ is_denial_type record_type.0 }
-{
-    record_type == RecordType::NSEC || record_type == RecordType::NSEC3
 }
 
 /// Whether a query of a type is answered by one set that is chosen (RFC 8482 section 4.1), or by its signatures.

@@ -30,7 +30,7 @@ pub use sending::{send_code, send_soa};
 pub use server::Server;
 pub use serving::serve_frames;
 pub use transfer_policy::TransferPolicy;
-pub use transfer_reply::{TransferReply, asks_for_transfer, reply_to};
+pub use transfer_reply::{TransferReply, asks_for_transfer, reply_to, soa_key};
 pub use transport::{DATAGRAM_SIZE, Transport, limit_for, limit_without_opt};
 pub use waiting::Stop;
 pub use zones::ServedZones;

@@ -153,8 +153,8 @@ fn allowed_reply<'z, S: Signer, H: Nsec3Hash>(
     Ok(changes_reply(transport, serial, soa, zone.inner.as_map()))
 }
 
-/// The key of the SOA set of an origin.
-fn soa_key(origin: &LowerName) -> Result<RrKey, ProtoError>
+/// The key of the SOA set of an origin. Refused by `Memory`.
+pub fn soa_key(origin: &LowerName) -> Result<RrKey, ProtoError>
     ensures { IfOk result (λ key. key ≡ key_at origin.now SOA) }
 {
     Ok(RrKey::new(origin.clone()?, RecordType::SOA))

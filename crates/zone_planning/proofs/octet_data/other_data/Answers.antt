@@ -4,7 +4,7 @@ use Rattle.zone_proto.specs.declared.rdata.RData.TheVariants as V
 use Rattle.zone_proto.specs.declared.rdata.other.OtherData.{OtherData}
 use Rattle.zone_proto.specs.declared.record_type.RecordType.{RecordType}
 use Rattle.zone_proto.specs.Types.{has_own_case}
-use Rattle.zone_digest.proofs.putting.other_data.Goals as goal
+use Rattle.zone_planning.proofs.octet_data.other_data.Goals as goal
 
 other_same : (d : OtherData) (t : RecordType) (octets : List ℕ) → d.record_type ≡ t → d.octets ≡ octets → (own : has_own_case t.0 ≡ false)
     → V.Other d ≡ V.Other (record { record_type = t; octets = octets; other = own })

@@ -1,6 +1,6 @@
 use Rattle.std.proofs.Common.{◌≡◌, ◌++◌, map, take}
 use Rattle.message_writing.specs.Responses.{all_records, with_ttl}
-use Rattle.difference_messages.proofs.groups.push_records.Given as goal
+use Rattle.message_writing.proofs.singles.push_records.Given as goal
 
 abbrev pub invariant-loop-record : goal.invariant-loop-record
 invariant-loop-record l = all_records l.groups.items ≡ all_records l.initial.groups.items ++ map (with_ttl l.ttl) (take l.record-index l.records)
