@@ -1,21 +1,20 @@
 -- Answers of the forms of the standards are taken
-use Rattle.std.proofs.Common.{◌≡◌, ℕ, ◌+◌, ◌-◌, Bool, true, false, List, [], ◌∷◌, ◌++◌, length, take, refl, sym, ap, ◌∙◌, append_assoc, arith, eq-eqb, Result, Ok, Err}
-use Rattle.std.specs.Prelude.{◌==◌, not, if◌then◌else◌, Option, Some, None}
-use Rattle.std.specs.List.{flat_map, AllByRecursion}
-use Rattle.zone_proto.specs.Names.{Name, lower, is_at_or_above}
-use Rattle.zone_proto.specs.Types.{IN}
+use Rattle.std.proofs.Common.{◌≡◌, ℕ, ◌+◌, ◌-◌, ◌^◌, Bool, true, false, true≢false, List, [], ◌∷◌, ◌++◌, length, take, refl, sym, ap, ◌∙◌, append_assoc, arith, eq-eqb, Result, Ok, Err}
+use Rattle.std.specs.Prelude.{◌==◌, ◌&&◌, not, nat_lt, if◌then◌else◌, Option, Some, None}
+use Rattle.std.specs.List.{flat_map}
+use Rattle.std.proofs.lemmas.Bool.{eqb-true}
+use Rattle.zone_proto.specs.Names.{lower, is_at_or_above}
 use Rattle.zone_proto.specs.declared.record.Record.{Record}
-use Rattle.zone_secondary.specs.Serials.{is_newer}
+use Rattle.zone_secondary.specs.Serials.{ahead, is_newer}
 use Rattle.zone_secondary.specs.declared.secondary.Question.{Question}
-use Rattle.zone_secondary.specs.declared.secondary.Question.TheVariants.{Changes, Zone}
+use Rattle.zone_secondary.specs.declared.secondary.Question.TheVariants.{Soa, Changes, Zone}
 use Rattle.transfer_reading.specs.Answers.{◌>>=◌}
-use Rattle.transfer_reading.specs.Laws.{records_of, AreOthers, IsRecord, IsStep, Lead, Step, TakesDifferences, TakesWholeZones}
-use Rattle.transfer_reading.specs.Outcomes.{zone_of, Said}
-use Rattle.transfer_reading.specs.Stages.{behind_all, behind_difference, behind_first, behind_record, behind_second, behind_soa, behind_zone, by_serial, serial_at}
+use Rattle.transfer_reading.specs.Laws.{records_of, AreOthers, AsksFor, IsRecord, IsStep, Lead, Step, TakesDifferences, TakesWholeZones}
+use Rattle.transfer_reading.specs.Outcomes.{zone_of}
+use Rattle.transfer_reading.specs.Stages.{behind_all, behind_first, behind_record, behind_second, behind_zone, by_serial, serial_at}
 use Rattle.transfer_reading.specs.declared.asked.Asked.{Asked}
 use Rattle.transfer_reading.specs.declared.fault.AnswerFault.{AnswerFault}
 use Rattle.transfer_reading.specs.declared.fault.AnswerFault.TheVariants.{OtherClass, Outside, OtherSerial}
-use Rattle.transfer_reading.specs.declared.fault.OutcomeFault.{OutcomeFault}
 use Rattle.transfer_reading.specs.declared.stage.Stage.{Stage}
 use Rattle.transfer_reading.specs.declared.stage.Stage.TheVariants.{Before, Begun, InZone, TakingOut, Giving, WholeZone, AllDifferences, SerialAlone}
 
@@ -57,14 +56,34 @@ in_zone : (a : Asked) (serial : ℕ) (last : Record) (between : List Record) →
 in_zone a serial last between others h =
     others_stay a (InZone serial) (λ r o. on_by a (InZone serial) r None o) between (last ∷ []) others ∙ zone_end a serial last h
 
-begun : (a : Asked) (serial : ℕ) (last : Record) (between : List Record) → a.question ≡ Zone → AreOthers a.origin between → IsRecord a.origin last (Some serial)
+-- a version that answers a question is newer than the one that is held, so no answer of differences begins with its SOA record
+no_newer : (n : ℕ) → is_newer n n ≡ false
+no_newer n =
+    let none : ahead n n ≡ 0 = omega arith in
+    ap (λ (k : ℕ). nat_lt 0 k && nat_lt k (2 ^ 31)) none
+
+not_held : (n held : ℕ) → is_newer n held ≡ true → (n == held) ≡ false
+not_held n held h = by (n == held) refl
+  where
+    by : (b : Bool) → (n == held) ≡ b → b ≡ false
+    by true e = absurd (true≢false (sym h ∙ ap (λ (k : ℕ). is_newer k held) (eqb-true n held e) ∙ no_newer held))
+    by false e = refl
+
+first_is : (q : Question) (n : ℕ) → AsksFor q n → behind_first q n ≡ Begun n
+first_is Soa n h = absurd h
+first_is (Changes held) n h = ap (λ (b : Bool). if b then Begun n else SerialAlone n) h
+first_is Zone n h = refl
+
+second_is : (q : Question) (n : ℕ) → AsksFor q n → behind_second q n n ≡ Ok WholeZone
+second_is Soa n h = absurd h
+second_is (Changes held) n h =
+    ap (λ (b : Bool). if b then Ok (TakingOut n) else behind_zone n n) (not_held n held h) ∙ ap (λ (b : Bool). if b then Ok WholeZone else Err OtherSerial) (same n)
+second_is Zone n h = ap (λ (b : Bool). if b then Ok WholeZone else Err OtherSerial) (same n)
+
+begun : (a : Asked) (serial : ℕ) (last : Record) (between : List Record) → AsksFor a.question serial → AreOthers a.origin between → IsRecord a.origin last (Some serial)
     → behind_all a (Begun serial) (between ++ last ∷ []) ≡ Ok WholeZone
 begun a serial last [] q others h =
-    one_more a (Begun serial) WholeZone last []
-    (on_by a (Begun serial) last (Some serial) h
-    ∙ ap (λ (x : Question). behind_second x serial serial) q
-    ∙ ap (λ (b : Bool). if b then Ok WholeZone else Err OtherSerial) (same serial))
-    ∙ none_more a WholeZone
+    one_more a (Begun serial) WholeZone last [] (on_by a (Begun serial) last (Some serial) h ∙ second_is a.question serial q) ∙ none_more a WholeZone
 begun a serial last (r ∷ rs) q others h =
     one_more a (Begun serial) (InZone serial) r (rs ++ last ∷ []) (on_by a (Begun serial) r None others.0) ∙ in_zone a serial last rs others.1 h
 
@@ -80,7 +99,7 @@ pub takes_whole_zones : TakesWholeZones
 takes_whole_zones = record {
   taken = λ a serial first last between q f others l.
       one_more a Before (Begun serial) first (between ++ last ∷ [])
-      (on_by a Before first (Some serial) f ∙ ap (λ (x : Question). Ok (behind_first x serial)) q)
+      (on_by a Before first (Some serial) f ∙ ap (λ (x : Stage). Ok x) (first_is a.question serial q))
       ∙ begun a serial last between q others l;
   said = λ origin first last between held.
       let whole = first ∷ between ++ last ∷ [] in

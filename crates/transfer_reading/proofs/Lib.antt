@@ -1,3 +1,4 @@
 mod NameTests
 mod Steps
 mod Forms
+mod Messages

@@ -1,13 +1,14 @@
 //! The answers of a message of a response.
 ghost use Rattle.std.specs.Prelude.{◌≡◌};
 ghost use Rattle.message_reading.specs.Messages.{message_of, parts_of};
-ghost use Rattle.transfer_reading.specs.Answers.{answers_in, answers_of, asks, is_answer, is_asked, listed, Gives};
+ghost use Rattle.transfer_reading.specs.Answers.{answers_in, answers_of, asks, asks_authority, is_answer, is_asked, listed, Gives};
 
 use crate::asked::{Asked, type_asked};
 use crate::fault::AnswerFault;
 use message_reading::{Header, Message, MessageError, Question, read_message};
 use std::alloc::Global;
 use zone_proto::{DNSClass, Record};
+use zone_secondary::Question as ZoneQuestion;
 
 /// The answers of the octets of a message, if it is one of the response to what was asked; of another than the first the question may be
 /// missing.
@@ -40,7 +41,7 @@ fn answers_in(asked: &Asked, is_first: bool, message: Message) -> Result<Vec<Rec
     if !asks(asked, is_first, message.questions.as_slice()) {
         return Err(AnswerFault::OtherQuestion);
     }
-    if !header.authoritative {
+    if !header.authoritative && asks_authority(asked.question) {
         return Err(AnswerFault::NotAuthoritative);
     }
     if header.truncated {
@@ -74,4 +75,14 @@ fn is_asked(asked: &Asked, question: &Question) -> bool
     question.name == asked.origin
         && question.query_type == type_asked(asked.question)
         && question.query_class == DNSClass::IN
+}
+
+/// Whether an authority is asked: for the SOA record. Where a zone is sent, AA isn't looked at (RFC 5936 section 2.2.1).
+fn asks_authority(question: ZoneQuestion) -> bool
+    ensures { result ≡ asks_authority question }
+{
+    match question {
+        ZoneQuestion::Soa => true,
+        ZoneQuestion::Changes(_) | ZoneQuestion::Zone => false,
+    }
 }

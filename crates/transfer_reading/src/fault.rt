@@ -20,7 +20,7 @@ pub enum AnswerFault {
     /// It answers another question, or the first message has none.
     #[error("the message has another question")]
     OtherQuestion,
-    /// The primary isn't an authority for the zone: AA is clear.
+    /// The SOA record was asked for, and the primary isn't an authority for the zone: AA is clear.
     #[error("the primary isn't an authority for the zone")]
     NotAuthoritative,
     /// It is cut: TC is set.
