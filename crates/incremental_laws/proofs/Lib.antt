@@ -7,3 +7,5 @@ pub mod Arriving
 pub mod OneStep
 pub mod Made
 pub mod Taken
+pub mod HeldWhole
+pub mod TakenWhole

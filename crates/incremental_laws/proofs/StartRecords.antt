@@ -94,6 +94,7 @@ pub record IsStart (o : Name) (serial : ℕ) (s : RRset) : Type 0 where
   pub others : List Record
   pub are : sent s ≡ soa ∷ others
   pub alone : sent_alone s ≡ soa ∷ []
+  pub signatures : map (with_ttl s.ttl) s.signatures ≡ others
   pub serial_is : serial_at o soa ≡ Some serial
   pub none : AllByRecursion (λ (r : Record). serial_at o r ≡ None) others
 
@@ -102,17 +103,18 @@ start o n m v =
     let stored = v.zone.stored (lower o) SOA v.soa v.stands in
     let parts = by v.soa.records v.soa.signatures (stored.set.single (ap is_single stored.record_type)) v.serial_is
     (recursion_from_All (λ (r : Record). type_of r.rdata ≡ RRSIG) v.soa.signatures v.signed) (v.kept (key (lower o) SOA) v.soa v.stands).keyed in
-    record { soa = parts.0; others = parts.1; are = parts.2; alone = parts.3; serial_is = parts.4; none = parts.5 }
+    record { soa = parts.0; others = parts.1; are = parts.2; alone = parts.3; signatures = parts.4; serial_is = parts.5; none = parts.6 }
   where
     by : (rs sigs : List Record) → length rs ≤ 1 → first_serial rs ≡ Some n → AllByRecursion (λ (r : Record). type_of r.rdata ≡ RRSIG) sigs
         → AllByRecursion (λ (r : Record). set_key r ≡ key (lower o) SOA) (map (with_ttl v.soa.ttl) (rs ++ sigs))
         → (soa : Record) × (others : List Record) × (map (with_ttl v.soa.ttl) (rs ++ sigs) ≡ soa ∷ others) × (map (with_ttl v.soa.ttl) rs ≡ soa ∷ [])
-        × (serial_at o soa ≡ Some n) × AllByRecursion (λ (r : Record). serial_at o r ≡ None) others
+        × (map (with_ttl v.soa.ttl) sigs ≡ others) × (serial_at o soa ≡ Some n) × AllByRecursion (λ (r : Record). serial_at o r ≡ None) others
     by [] sigs few is signed keyed = absurd cc
     by (x ∷ []) sigs few is signed keyed =
         let same : same_name x.name o ≡ true = same_from_lower x.name o (ap (λ (k : RrKey). k.name) keyed.0) in (
           with_ttl v.soa.ttl x,
           map (with_ttl v.soa.ttl) sigs,
+          refl,
           refl,
           refl,
           ap (λ b. if not b then None else soa_serial x.rdata) same ∙ is,

@@ -12,7 +12,9 @@ use Rattle.zone_proto.specs.declared.rr_key.RrKey.{RrKey}
 use Rattle.zone_map.specs.Zones.{Sets, set_at}
 use Rattle.zone_difference.proofs.Found.{each_found, filter_in_order}
 use Rattle.shown_zones.specs.Sending.{sent, sent_alone, sent_step}
+use Rattle.shown_zones.specs.Shown.{with_ttl}
 use Rattle.shown_zones.specs.Steps.{changed as changed_sets, is_changed, IsStep, Step}
+use Rattle.transfer_reading.specs.Differences.{set_key}
 use Rattle.transfer_reading.specs.Laws.{records_of, AreOthers, IsRecord, IsStep as IsDifference, Lead, Step as Difference, TakesDifferences}
 use Rattle.transfer_reading.specs.Stages.{behind_all, serial_at}
 use Rattle.transfer_reading.specs.declared.stage.Stage.TheVariants.{Before}
@@ -24,7 +26,7 @@ use Rattle.incremental_laws.proofs.StartRecords.{others_none, start_at}
 
 -- ---- the records of sets
 
-kept_others : (o : Name) (rs : List Record) → AllByRecursion (λ (r : Record). (r.dns_class.0 == IN) ≡ true) rs
+pub kept_others : (o : Name) (rs : List Record) → AllByRecursion (λ (r : Record). (r.dns_class.0 == IN) ≡ true) rs
     → AllByRecursion (λ (r : Record). is_at_or_above (lower o) (lower r.name) ≡ true) rs → AllByRecursion (λ (r : Record). serial_at o r ≡ None) rs → AreOthers o rs
 kept_others o [] class inside none = tt
 kept_others o (r ∷ rs) class inside none =
@@ -34,16 +36,17 @@ joined : (o : Name) (xs ys : List Record) → AreOthers o xs → AreOthers o ys 
 joined o [] ys h g = g
 joined o (x ∷ xs) ys h g = (h.0, joined o xs ys h.1 g)
 
-all_others : (o : Name) (es : Sets) → AllByRecursion (λ (e : RrKey × RRset). AreOthers o (sent e.1)) es → AreOthers o (flat_map sent (map (λ e. e.1) es))
-all_others o [] h = tt
-all_others o (e ∷ es) h = joined o (sent e.1) (flat_map sent (map (λ x. x.1) es)) h.0 (all_others o es h.1)
+pub all_others : (o : Name) (records : RRset → List Record) (es : Sets) → AllByRecursion (λ (e : RrKey × RRset). AreOthers o (records e.1)) es
+    → AreOthers o (flat_map records (map (λ e. e.1) es))
+all_others o records [] h = tt
+all_others o records (e ∷ es) h = joined o (records e.1) (flat_map records (map (λ x. x.1) es)) h.0 (all_others o records es h.1)
 
 changed_others : (o : Name) (n : ℕ) (a b : Sets) (ss : List RRset) → IsVersion o n a → ss ≡ changed_sets (key (lower o) SOA) a b → AreOthers o (flat_map sent ss)
 changed_others o n a b ss v is =
     let k : RrKey = key (lower o) SOA in
     let es : Sets = filter (is_changed k b) a in
     subst (λ (xs : List RRset). AreOthers o (flat_map sent xs)) (sym is)
-    (all_others o es
+    (all_others o sent es
     (each_found (λ q t. AreOthers o (sent t)) es (filter_in_order (λ q s. is_changed k b (q, s)) a v.zone.ordered)
     (λ q t e.
     let there = changed_is k a b v.zone.ordered q t e in
@@ -56,15 +59,19 @@ pub record IsBegun (o : Name) (n : ℕ) (s : RRset) : Type 0 where
   pub others : List Record
   pub are : sent s ≡ soa ∷ others
   pub alone : sent_alone s ≡ soa ∷ []
+  pub signatures : map (with_ttl s.ttl) s.signatures ≡ others
+  pub keyed : set_key soa ≡ key (lower o) SOA
   pub first : IsRecord o soa (Some n)
   pub rest : AreOthers o others
 
-begun : (o : Name) (n : ℕ) (m : Sets) (s : RRset) → IsVersion o n m → set_at m (lower o) SOA ≡ Some s → IsBegun o n s
+pub begun : (o : Name) (n : ℕ) (m : Sets) (s : RRset) → IsVersion o n m → set_at m (lower o) SOA ≡ Some s → IsBegun o n s
 begun o n m s v found =
     let st = start_at o n m s v found in
     let kept = v.kept (key (lower o) SOA) s found in
     let class : AllByRecursion (λ (r : Record). (r.dns_class.0 == IN) ≡ true) (st.soa ∷ st.others) =
     subst (λ (rs : List Record). AllByRecursion (λ (r : Record). (r.dns_class.0 == IN) ≡ true) rs) st.are kept.class in
+    let keyed : AllByRecursion (λ (r : Record). set_key r ≡ key (lower o) SOA) (st.soa ∷ st.others) =
+    subst (λ (rs : List Record). AllByRecursion (λ (r : Record). set_key r ≡ key (lower o) SOA) rs) st.are kept.keyed in
     let inside : AllByRecursion (λ (r : Record). is_at_or_above (lower o) (lower r.name) ≡ true) (st.soa ∷ st.others) =
     subst (λ (rs : List Record). AllByRecursion (λ (r : Record). is_at_or_above (lower o) (lower r.name) ≡ true) rs) st.are kept.inside in
     record {
@@ -72,6 +79,8 @@ begun o n m s v found =
       others = st.others;
       are = st.are;
       alone = st.alone;
+      signatures = st.signatures;
+      keyed = keyed.0;
       first = record { class = class.0; inside = inside.0; serial_is = st.serial_is };
       rest = kept_others o st.others class.1 inside.1 st.none;
     }

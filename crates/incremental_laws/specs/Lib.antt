@@ -1,3 +1,4 @@
 pub mod Versions
 pub mod Holding
 pub mod IncrementalLaws
+pub mod WholeZones

@@ -1,4 +1,4 @@
-//! What a secondary makes of the steps of a zone that an incremental transfer sends (RFC 1995 section 4): it takes them, and has the newest
+//! What a secondary makes of a zone that a transfer sends, whole (RFC 5936) or by its steps (RFC 1995 section 4): it takes it, and has the newest
 //! version then.
 #![tactic(auto)]
 
