@@ -1,12 +1,10 @@
 -- What a secondary makes of the messages of an incremental transfer
-use Rattle.std.specs.Prelude.{◌≡◌, ℕ, ◌≤◌, true, List, [], ◌∷◌, length, Ok, Result}
-use Rattle.message_reading.specs.Messages.{message_of}
+use Rattle.std.specs.Prelude.{◌≡◌, ℕ, ◌≤◌, true, List, [], ◌∷◌, length, Ok}
 use Rattle.message_writing.specs.Responses.{all_records}
-use Rattle.transfer_reading.specs.Answers.{◌>>=◌, is_asked}
+use Rattle.transfer_reading.specs.Answers.{is_asked}
 use Rattle.transfer_reading.specs.Stages.{behind_all}
-use Rattle.transfer_reading.specs.Transfers.{took, Course}
+use Rattle.transfer_reading.specs.Transfers.{begun, took_all}
 use Rattle.transfer_reading.specs.declared.asked.Asked.{Asked}
-use Rattle.transfer_reading.specs.declared.fault.AnswerFault.{AnswerFault}
 use Rattle.transfer_reading.specs.declared.stage.Stage.{Stage}
 use Rattle.transfer_reading.specs.declared.stage.Stage.TheVariants.{Before}
 use Rattle.difference_messages.specs.Messages.{Answer, IsNext}
@@ -15,15 +13,6 @@ use Rattle.difference_messages.specs.Messages.{Answer, IsNext}
 abbrev pub AreAll : Answer → ℕ → List (List ℕ) → Type 0
 AreAll a sent [] = length a.groups ≤ sent
 AreAll a sent (text ∷ texts) = (next : ℕ) × IsNext a sent next text × AreAll a next texts
-
--- a secondary behind these messages, or the first fault
-unfoldable pub took_all : Course → List (List ℕ) → Result Course AnswerFault
-took_all t [] = Ok t
-took_all t (text ∷ texts) = took t (message_of text) >>= λ n. took_all n texts
-
--- the secondary before the first message
-abbrev pub begun : Asked → Course
-begun asked = record { asked = asked; stage = Before; records = [] }
 
 -- A secondary whose query is answered takes all messages if it takes their records: it has these then.
 abbrev pub MessagesAreTaken : Type 0
