@@ -104,12 +104,12 @@ def law_rows(crate, path):
             name, clauses = found[1], []
         elif found := re.match(r" +ensures (\w+) \{", line):
             clauses.append(found[1])
-        elif line == "{}" and name:
+        elif line in ("{}", "{") and name:
             told = f"`{name}`" + (f", clauses {code_words(clauses)}" if clauses else "")
             yield f"| `{crate}` | {told} | {in_cell(' '.join(it for it in comment if it))} |"
             comment, name = [], None
         elif not line.startswith(("#[", " ")):
-            comment = []
+            comment, name = [], None
 
 
 def laws():
