@@ -13,7 +13,7 @@ use Rattle.zone_journal.specs.Replays.{steps_of}
 abbrev pub with_front : List Step → Option (List Step) → Option (List Step)
 with_front front read = read >>= λ ss. Some (front ++ ss)
 
-frames_end : (n : ℕ) (octets : List ℕ) → frame_at octets ≡ None → frames_from n octets ≡ []
+pub frames_end : (n : ℕ) (octets : List ℕ) → frame_at octets ≡ None → frames_from n octets ≡ []
 unfolding frames_from
 frames_end zero octets h = refl
 frames_end (suc n) octets h = ap (with_next (frames_from n)) h

@@ -18,7 +18,8 @@ use Rattle.message_reading.specs.Octets.{◌>>=◌}
 use Rattle.message_writing.specs.Responses.{with_ttl}
 use Rattle.shown_zones.specs.Shown.{shown_set, spelled}
 use Rattle.shown_zones.proofs.Shows.{same_lower}
-use Rattle.zone_journal.specs.Grouping.{all_sets, begun, continues, grouped, joined, sent, sets_in, with_current, with_record}
+use Rattle.shown_zones.specs.Sending.{sent}
+use Rattle.zone_journal.specs.Grouping.{all_sets, begun, continues, grouped, joined, sets_in, with_current, with_record}
 use Rattle.zone_journal.specs.Writing.{IsSound}
 
 not_true : (b : Bool) → (b ≡ true → ⊥) → b ≡ false

@@ -5,3 +5,5 @@ pub mod Leading
 pub mod Parted
 pub mod Reading
 pub mod Sounds
+pub mod Shortened
+pub mod Writables

@@ -12,7 +12,8 @@ use Rattle.message_series.specs.Series.{records_of}
 use Rattle.shown_zones.specs.Shown.{shown_set, spelled}
 use Rattle.shown_zones.specs.Steps.{Step, shown_step}
 use Rattle.zone_journal.specs.Entries.{entry_of, first_of, is_soa, parted_at, step_in, step_with}
-use Rattle.zone_journal.specs.Grouping.{sent_sets, sent_step, sets_in}
+use Rattle.shown_zones.specs.Sending.{sent_sets, sent_step}
+use Rattle.zone_journal.specs.Grouping.{sets_in}
 use Rattle.zone_journal.specs.Writing.{IsSound, all_follow, follows, is_soa_set, is_writable}
 use Rattle.zone_journal.proofs.Grouped.{AreApart, Starts, sets_back}
 

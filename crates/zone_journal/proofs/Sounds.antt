@@ -8,7 +8,7 @@ use Rattle.std.proofs.lemmas.List.Elements.{recursion_from_All}
 use Rattle.zone_proto.specs.Sets.{RRset}
 use Rattle.zone_proto.specs.declared.record.Record.{Record}
 use Rattle.shown_zones.specs.Steps.{Step}
-use Rattle.zone_journal.specs.Grouping.{sent, sent_sets, sent_step}
+use Rattle.shown_zones.specs.Sending.{sent, sent_sets, sent_step}
 use Rattle.zone_journal.specs.Writing.{IsSound}
 
 -- the records of a step are put one behind the other

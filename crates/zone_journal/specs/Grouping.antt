@@ -1,27 +1,11 @@
 -- Records as the sets that they are sent of, one behind the other: the records of a set, and then its signatures
-use Rattle.std.specs.Prelude.{◌==◌, ◌&&◌, not, Bool, if◌then◌else◌, List, [], ◌∷◌, ◌++◌, map, Option, Some, None}
-use Rattle.std.specs.List.{flat_map}
+use Rattle.std.specs.Prelude.{◌==◌, ◌&&◌, not, Bool, if◌then◌else◌, List, [], ◌∷◌, ◌++◌, Option, Some, None}
 use Rattle.zone_proto.specs.Data.{type_of}
 use Rattle.zone_proto.specs.Names.{same_name}
 use Rattle.zone_proto.specs.Sets.{RRset, inserted}
 use Rattle.zone_proto.specs.Types.{IN, RRSIG, SOA}
 use Rattle.zone_proto.specs.declared.record.Record.{Record}
 use Rattle.message_reading.specs.Octets.{◌>>=◌}
-use Rattle.message_writing.specs.Responses.{with_ttl}
-use Rattle.shown_zones.specs.Steps.{Step}
-
--- the records of a set and then its signatures, with the TTL of the set (RFC 2181 section 5.2, RFC 4034 section 3)
-abbrev pub sent : RRset → List Record
-sent s = map (with_ttl s.ttl) (s.records ++ s.signatures)
-
--- the records of a step (RFC 1995 section 4): the older SOA and what is deleted, the newer SOA and what is added
-abbrev pub sent_sets : Step → List RRset
-sent_sets s = s.old_soa ∷ (s.deleted ++ s.new_soa ∷ s.added)
-
-abbrev pub sent_step : Step → List Record
-sent_step s = flat_map sent (sent_sets s)
-
--- ---- back from records to sets
 
 -- the set that a record begins
 abbrev pub begun : Record → RRset

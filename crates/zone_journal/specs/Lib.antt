@@ -5,3 +5,5 @@ pub mod Replays
 pub mod Writing
 pub mod Journals
 pub mod JournalLaws
+pub mod Shortening
+pub mod WritableSteps

@@ -1,10 +1,12 @@
 -- Which steps can be written as entries, and what is written of them
-use Rattle.std.specs.Prelude.{◌==◌, ◌&&◌, not, Bool, true, List, [], ◌∷◌, length}
+use Rattle.std.specs.Prelude.{◌≡◌, ◌==◌, ◌&&◌, not, Bool, true, false, List, [], ◌∷◌, length}
 use Rattle.zone_proto.specs.Names.{same_name}
 use Rattle.zone_proto.specs.Sets.{RRset, AreSignatures, IsSet}
 use Rattle.zone_proto.specs.Types.{RRSIG, SOA}
 use Rattle.shown_zones.specs.Shown.{spelled}
 use Rattle.shown_zones.specs.Steps.{Step}
+use Rattle.zone_journal.specs.declared.fault.EntryFault.{EntryFault}
+use Rattle.zone_journal.specs.declared.fault.EntryFault.TheVariants.{Unreadable, Unwritable, Memory}
 
 -- A set that can be read back behind another: it has records, they are no signatures and no SOA, and its owner or its type is another one.
 abbrev pub follows : RRset → RRset → Bool
@@ -22,6 +24,12 @@ is_soa_set s = s.record_type == SOA && not (length s.records == 0)
 -- a step between two SOAs whose other sets can be read back one behind the other
 abbrev pub is_writable : Step → Bool
 is_writable s = is_soa_set s.old_soa && (is_soa_set s.new_soa && (all_follow s.old_soa s.deleted && all_follow s.new_soa s.added))
+
+-- a step is refused as one that can't be read back only where it isn't such a one
+abbrev pub IsEntryFault : Step → EntryFault → Type 0
+IsEntryFault s Unreadable = is_writable s ≡ false
+IsEntryFault s Unwritable = Unit {0}
+IsEntryFault s Memory = Unit {0}
 
 -- what holds of each set: its records are those of one set, and its signatures are signatures
 pub record IsSound (s : RRset) : Type 0 where

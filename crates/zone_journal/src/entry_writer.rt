@@ -1,8 +1,10 @@
 //! Entries written.
-ghost use Rattle.std.specs.Prelude.{◌≡◌, IfOk, Some};
+ghost use Rattle.std.specs.Prelude.{◌≡◌, IfErr, IfOk, Some};
 ghost use Rattle.shown_zones.specs.Steps.{shown_step, step_of};
 ghost use Rattle.zone_journal.specs.Entries.{entry_of};
+ghost use Rattle.zone_journal.specs.Writing.{IsEntryFault};
 
+use crate::fault::EntryFault;
 use crate::groups::groups_of;
 use crate::writable::is_writable;
 use message_series::{SeriesFault, write_series};
@@ -14,15 +16,22 @@ use zone_proto::Name;
 ///
 /// # Errors
 ///
-/// `Unwritable` where the step isn't between two SOAs; where one of its other sets has no records, is of type SOA or RRSIG, or has the owner
-/// and type of the one before it; where a record has data that no octets are, or no message has room for it; or where there are more
-/// than 65,535 messages. `Memory` where none is found.
-pub fn write_entry(alloc: Global, origin: &Name, step: &ZoneStep) -> Result<Vec<u8>, SeriesFault>
-    ensures { IfOk result (λ octets. entry_of octets.items ≡ Some (shown_step (step_of step.now))) }
+/// `Unreadable` where the step isn't between two SOAs; where one of its other sets has no records, is of type SOA or RRSIG, or has the owner
+/// and type of the one before it. By the law [`steps_are_writable`](crate::laws::steps_are_writable) no step between versions is such a one.
+/// `Unwritable` where a record has data that no octets are, or no message has room for it; or where there are more than 65,535 messages.
+/// `Memory` where none is found.
+pub fn write_entry(alloc: Global, origin: &Name, step: &ZoneStep) -> Result<Vec<u8>, EntryFault>
+    ensures reads { IfOk result
+        (λ octets. entry_of octets.items ≡ Some (shown_step (step_of step.now))) }
+    ensures fault { IfErr result (IsEntryFault (step_of step.now)) }
 {
     if !is_writable(step) {
-        return Err(SeriesFault::Unwritable);
+        return Err(EntryFault::Unreadable);
     }
     let groups = groups_of(alloc, step)?;
-    Ok(write_series(alloc, origin, groups.as_slice())?)
+    match write_series(alloc, origin, groups.as_slice()) {
+        Ok(octets) => Ok(octets),
+        Err(SeriesFault::Unwritable) => Err(EntryFault::Unwritable),
+        Err(SeriesFault::Memory) => Err(EntryFault::Memory),
+    }
 }

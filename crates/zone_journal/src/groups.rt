@@ -3,7 +3,7 @@ ghost use Rattle.std.specs.Prelude.{◌≡◌, ◌++◌, IfOk, OnOk};
 ghost use Rattle.message_writing.specs.Responses.{all_records};
 ghost use Rattle.std.specs.List.{All, AllByRecursion, flat_map};
 ghost use Rattle.shown_zones.specs.Steps.{step_of};
-ghost use Rattle.zone_journal.specs.Grouping.{sent, sent_sets, sent_step};
+ghost use Rattle.shown_zones.specs.Sending.{sent, sent_sets, sent_step};
 ghost use Rattle.zone_journal.specs.Writing.{IsSound};
 
 use message_writing::{Group, push_records};

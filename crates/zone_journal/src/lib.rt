@@ -8,15 +8,19 @@
 
 mod entry_reader;
 mod entry_writer;
+mod fault;
 mod grouping;
 mod groups;
 pub mod laws;
 mod parting;
 mod pushing;
 mod replaying;
+mod shortening;
 mod writable;
 
 pub use entry_reader::read_entry;
 pub use entry_writer::write_entry;
+pub use fault::EntryFault;
 pub use pushing::push_step;
 pub use replaying::{ReplayFault, replayed};
+pub use shortening::journal_from;

@@ -1,11 +1,12 @@
 //! Steps put behind a journal.
-ghost use Rattle.std.specs.Prelude.{◌≡◌, OnErr, OnOk};
+ghost use Rattle.std.specs.Prelude.{◌≡◌, IfErr, OnErr, OnOk};
 ghost use Rattle.shown_zones.specs.Steps.{step_of};
 ghost use Rattle.zone_journal.specs.Journals.{IsPut};
+ghost use Rattle.zone_journal.specs.Writing.{IsEntryFault};
 
 use crate::entry_writer::write_entry;
+use crate::fault::EntryFault;
 use journal_frames::push_frame;
-use message_series::SeriesFault;
 use shown_zones::ZoneStep;
 use std::alloc::Global;
 use zone_proto::Name;
@@ -24,13 +25,14 @@ pub fn push_step(
     origin: &Name,
     step: &ZoneStep,
     journal: &mut Vec<u8>,
-) -> Result<(), SeriesFault>
+) -> Result<(), EntryFault>
     ensures ok { OnOk result (IsPut journal.old.items journal.new.items (step_of step.now)) }
+    ensures fault { IfErr result (IsEntryFault (step_of step.now)) }
     ensures same { OnErr result (journal.new.items ≡ journal.old.items) }
 {
     let entry = write_entry(alloc, origin, step)?;
     if entry.len() > LONGEST {
-        return Err(SeriesFault::Unwritable);
+        return Err(EntryFault::Unwritable);
     }
     Ok(push_frame(journal, entry.as_slice())?)
 }

@@ -5,14 +5,14 @@ use Rattle.message_writing.specs.Responses.{all_records}
 use Rattle.message_writing.specs.declared.response.Group.{Group}
 use Rattle.message_series.specs.Series.{records_of}
 use Rattle.shown_zones.specs.Steps.{step_of}
-use Rattle.zone_journal.specs.Grouping.{sent_step}
+use Rattle.shown_zones.specs.Sending.{sent_step}
 use Rattle.zone_journal.specs.Writing.{is_writable}
 use Rattle.zone_journal.proofs.Parted.{entry_back}
 use Rattle.zone_journal.proofs.entry_writer.write_entry.Goals as goal
 
-pub returns : goal.returns
-returns c =
-    let reads : records_of c.in_ok-write_series.field-0.items ≡ Some (sent_step (step_of c.args.step.now)) =
-    c.in_ok-write_series.ensures ∙ ap (λ (gs : List Group). Some (all_records gs)) c.as_slice.ensures.value ∙ ap (λ (rs : List Record). Some rs) c.in_ok-groups.ensures.records in
+pub returns-in-Ok-clause-reads : goal.returns-in-Ok-clause-reads
+returns-in-Ok-clause-reads c =
+    let reads : records_of c.in-Ok.octets.items ≡ Some (sent_step (step_of c.args.step.now)) =
+    c.in-Ok.ensures ∙ ap (λ (gs : List Group). Some (all_records gs)) c.as_slice.ensures.value ∙ ap (λ (rs : List Record). Some rs) c.in_ok-groups.ensures.records in
     let writable : is_writable (step_of c.args.step.now) ≡ true = sym c.is_writable.ensures ∙ c.if-not-is_writable.false in
-    entry_back c.in_ok-write_series.field-0.items (step_of c.args.step.now) reads writable c.in_ok-groups.ensures.sound
+    entry_back c.in-Ok.octets.items (step_of c.args.step.now) reads writable c.in_ok-groups.ensures.sound

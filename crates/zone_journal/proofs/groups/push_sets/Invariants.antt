@@ -2,7 +2,7 @@ use Rattle.std.proofs.Common.{◌≡◌, ℕ, ◌++◌, ◌<◌, get_or, take}
 use Rattle.std.specs.List.{flat_map}
 use Rattle.message_writing.specs.Responses.{all_records}
 use Rattle.zone_proto.specs.Sets.{RRset}
-use Rattle.zone_journal.specs.Grouping.{sent}
+use Rattle.shown_zones.specs.Sending.{sent}
 use Rattle.zone_journal.specs.Writing.{IsSound}
 use Rattle.zone_journal.proofs.groups.push_sets.Given as goal
 
