@@ -23,7 +23,8 @@ impl Texts for HostTexts<'_> {
     fn text(&mut self, alloc: Global, name: &str) -> Result<Vec<u8>, ErrorKind> {
         match fs::metadata(self.rt, name) {
             Ok(found) if found.is_file() => {}
-            Ok(_) => return Err(ErrorKind::InvalidInput),
+            Ok(found) if found.is_dir() => return Err(ErrorKind::IsADirectory),
+            Ok(_) => return Err(ErrorKind::NotSeekable),
             Err(e) => return Err(e.kind()),
         }
         let mut text = Vec::new(alloc);

@@ -2,51 +2,61 @@
 
 use std::alloc::{AllocError, Global};
 
-/// The most folders that the name of a file goes up.
-const MOST_UP: u32 = 100;
-
-/// The name of a file that another one names: one that doesn't begin with `/` is relative to the folder of that. What goes up from a
-/// folder by `..` is told without it, so that a file has one name.
+/// The name of a file that another one names: one that doesn't begin with `/` is relative to the folder of that. Dots are resolved by
+/// the names alone, so that a file that includes itself is known by its name, however that is written: `.` stays where it is, and `..`
+/// leaves the folder before it. No folder is opened: where a folder is a link, `..` behind it leads back to where the link stands.
 pub(crate) fn name_beside(alloc: Global, file: &str, named: &str) -> Result<String, AllocError> {
-    let mut name = String::new(alloc);
-    if !named.starts_with('/') {
-        let (folder, named) = without_ups(folder_of(file), named);
-        if let Some(folder) = folder {
-            name.push_str(folder)?;
-            name.push('/')?;
+    let mut parts = Vec::new(alloc);
+    if named.starts_with('/') {
+        parts.push("")?;
+    } else if let Some((folder, _)) = file.rsplit_once('/') {
+        for part in folder.split('/') {
+            parts.push(part)?;
         }
-        name.push_str(named)?;
-        return Ok(name);
     }
-    name.push_str(named)?;
-    Ok(name)
+    for part in named.split('/') {
+        enter(&mut parts, part)?;
+    }
+    // What ends with `/` names a folder, whatever there is.
+    if named.ends_with('/') {
+        parts.push("")?;
+    }
+    join(alloc, parts.as_slice())
 }
 
-/// The folder of a file, if its name has one.
-fn folder_of(file: &str) -> Option<&str> {
-    match file.rsplit_once('/') {
-        Some((folder, _)) => Some(folder),
-        None => None,
+/// Enters a part of a path behind others.
+fn enter<'n>(parts: &mut Vec<&'n str>, part: &'n str) -> Result<(), AllocError> {
+    if part.is_empty() || part == "." {
+        return Ok(());
+    }
+    if part == ".." && leaves(parts.as_slice()) {
+        parts.pop();
+        return Ok(());
+    }
+    parts.push(part)?;
+    Ok(())
+}
+
+/// Whether the last of these parts is a folder by a name of its own, which `..` leaves.
+fn leaves(parts: &[&str]) -> bool {
+    match parts.last() {
+        Some(own) => !own.is_empty() && *own != "." && *own != "..",
+        None => false,
     }
 }
 
-/// A folder and a name in it, without each `..` that begins the name where the folder has a name of its own to be left.
-fn without_ups<'n>(folder: Option<&'n str>, named: &'n str) -> (Option<&'n str>, &'n str) {
-    let mut folder = folder;
-    let mut named = named;
-    for _ in 0..MOST_UP {
-        let (Some(inner), Some(behind)) = (folder, named.strip_prefix("../")) else {
-            return (folder, named);
-        };
-        let own = match inner.rsplit_once('/') {
-            Some((_, own)) => own,
-            None => inner,
-        };
-        if own == ".." || own == "." || own.is_empty() {
-            return (folder, named);
-        }
-        folder = folder_of(inner);
-        named = behind;
+/// The path of these parts, of which the first is empty where it begins with `/`; the folder where the program runs, if there are none.
+fn join(alloc: Global, parts: &[&str]) -> Result<String, AllocError> {
+    let Some((first, others)) = parts.split_first() else {
+        return String::from_str(alloc, ".");
+    };
+    let mut path = String::from_str(alloc, first)?;
+    for part in others {
+        path.push('/')?;
+        path.push_str(part)?;
     }
-    (folder, named)
+    if path.is_empty() {
+        path.push('/')?;
+    }
+    Ok(path)
 }

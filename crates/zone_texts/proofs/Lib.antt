@@ -2,5 +2,6 @@ pub mod Alone
 pub mod Digits
 pub mod Fallbacks
 pub mod Generated
+pub mod GoingOn
 pub mod Parts
 pub mod Whole

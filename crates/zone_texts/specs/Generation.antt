@@ -4,6 +4,9 @@ use Rattle.std.specs.List.{flat_map}
 use Rattle.line_text.specs.Numbers.{number_within}
 use Rattle.zone_scanner.specs.declared.place.Place.{Place}
 use Rattle.zone_scanner.specs.Entries.{EntryWords, WordText, Event, Whole, Broken, events_of}
+use Rattle.record_fields.specs.declared.fault.Fault.{Fault}
+use Rattle.record_fields.specs.declared.fault.Reason.{Reason}
+use Rattle.record_fields.specs.declared.fault.Reason.TheVariants.{Missing, Quoted, Surplus}
 use Rattle.zone_file.specs.declared.context.Context.{Context}
 use Rattle.zone_file.specs.declared.error.ZoneFault.{ZoneFault}
 use Rattle.zone_file.specs.declared.placed.PlacedRecord.{PlacedRecord}
@@ -59,6 +62,20 @@ template_of owner (t ∷ d ∷ []) = template owner (t ∷ []) d
 template_of owner (c ∷ t ∷ d ∷ []) = template owner (c ∷ t ∷ []) d
 template_of owner (l ∷ c ∷ t ∷ d ∷ []) = template owner (l ∷ c ∷ t ∷ []) d
 template_of owner _ = None
+
+-- what is wrong with these words, and at which: an owner in quotes; a word that is missing behind the last one; one too many behind
+-- the data
+abbrev pub fault_at : Reason → WordText → Option Fault
+fault_at reason w = Some (record { place = w.place; reason = reason })
+
+abbrev pub words_fault : WordText → List WordText → Option Fault
+words_fault owner [] = fault_at Missing owner
+words_fault owner (t ∷ []) = fault_at Missing t
+words_fault owner (l ∷ c ∷ t ∷ d ∷ surplus ∷ ws) = fault_at Surplus surplus
+words_fault owner _ = None
+
+abbrev pub template_fault : WordText → List WordText → Option Fault
+template_fault owner ws = if owner.quoted then fault_at Quoted owner else words_fault owner ws
 
 -- ---- the line of a number: the owner and the data as they are filled in, with the other words between them
 

@@ -1,4 +1,5 @@
 pub mod Generation
+pub mod GoingOn
 pub mod Inclusions
 pub mod Parts
 pub mod Patterns

@@ -1,17 +1,18 @@
 //! The entries of a text, with `$INCLUDE` and `$GENERATE` among them.
-ghost use Rattle.std.specs.Prelude.{◌≡◌, ℕ, List, Option, Some, IfOk, OnOk};
+ghost use Rattle.std.specs.Prelude.{◌≡◌, ℕ, List, Option, Some, IfOk, IsErr, OnOk};
 ghost use Rattle.record_fields.specs.Fields.{left_at};
 ghost use Rattle.record_fields.specs.Readings.{Gives};
 ghost use Rattle.zone_file.specs.Records.{is_control, read_entry};
+ghost use Rattle.zone_texts.specs.GoingOn.{behind_fault};
 ghost use Rattle.zone_texts.specs.Inclusions.{Gathered, directive_by, directive_of, entry_read, gathered, included_in, inclusion_of, left_to, origin_at, with_entry, with_moved};
 ghost use Rattle.zone_texts.specs.Readings.{IsFaultless};
 
 use crate::fault::What;
 use crate::generate::generate;
-use crate::state::{Part, Reading, copy_of, copy_of_context};
-use record_fields::{Fault, ReadError, Reason, Words, take_name};
+use crate::state::{Part, Reading, copy_of, copy_of_context, with_word};
+use record_fields::{ReadError, Reason, Words, take_name};
 use std::alloc::{AllocError, Global};
-use zone_file::{Context, PlacedRecord, ZoneError, ZoneFault, read_entry};
+use zone_file::{Context, PlacedRecord, ZoneError, read_entry};
 use zone_proto::{Name, Seq};
 use zone_scanner::{Entry, Place, Word};
 use zone_tokens::to_upper;
@@ -166,25 +167,7 @@ fn take_origin(alloc: Global, origin: &Name, left: Words<'_>) -> Result<Option<N
     Ok(Some(own))
 }
 
-/// A fault with the word at its place.
-fn with_word(alloc: Global, words: &[Word], fault: Fault) -> Result<ZoneFault, AllocError> {
-    let mut told = None;
-    for word in words {
-        if word.place() == fault.place {
-            match Seq::from_slice(alloc, word.octets()) {
-                Ok(octets) => told = Some(octets),
-                Err(_) => return Err(AllocError),
-            }
-        }
-    }
-    Ok(ZoneFault {
-        place: fault.place,
-        reason: fault.reason,
-        word: told,
-    })
-}
-
-/// Takes an entry that is a record, or `$ORIGIN` or `$TTL`.
+/// Takes an entry that is a record, or `$ORIGIN` or `$TTL`. Of one with a fault nothing is taken.
 fn take_record(
     alloc: Global,
     reading: &mut Reading,
@@ -197,6 +180,10 @@ fn take_record(
         with_entry part.before (read_entry context.old entry.now)
         (gathered context.old reading.old.records.items reading.old.sources.lines)
         ≡ Some (gathered context.new reading.new.records.items reading.new.sources.lines)) }
+    ensures faulty { OnOk result (IsErr (read_entry context.old entry.now) →
+        context.new ≡ behind_fault context.old) }
+    ensures records { OnOk result (IsErr (read_entry context.old entry.now) →
+        reading.new.records ≡ reading.old.records) }
 {
     let mut tried = copy_of_context(context)?;
     match read_entry(alloc, &mut tried, entry) {
@@ -262,7 +249,9 @@ fn push(
 }
 
 /// Behind a faulty entry the next ones have an owner and a TTL, since the faulty one may have been the one to give them.
-fn go_on(context: &mut Context) -> Result<(), AllocError> {
+fn go_on(context: &mut Context) -> Result<(), AllocError>
+    ensures { OnOk result (context.new ≡ behind_fault context.old) }
+{
     if context.owner.is_none() {
         context.owner = Some(copy_of(&context.origin)?);
     }

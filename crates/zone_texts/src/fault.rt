@@ -1,6 +1,7 @@
 //! What is wrong with a zone file or with one that it includes.
 
 use crate::sources::{Chain, FilePlace, Sources};
+use crate::state::Reading;
 use std::fmt;
 use std::io::ErrorKind;
 use thiserror::Error;
@@ -27,6 +28,12 @@ pub enum What {
     /// The name of a file that is no UTF-8.
     #[error("the name of this file isn't UTF-8")]
     FileName,
+    /// A folder in place of a file.
+    #[error("{0} is a folder, and no file")]
+    Folder(String),
+    /// A pipe or a device in place of a file.
+    #[error("{0} is a pipe or a device, and no file")]
+    Stream(String),
     /// A file that can't be read, for this reason.
     #[error("{0} can't be read: {1}")]
     Unreadable(String, ErrorKind),
@@ -85,5 +92,26 @@ impl fmt::Display for FaultLine<'_> {
             file: at.file,
         };
         write!(f, "{chain}")
+    }
+}
+
+/// The faults of the files that were read, each with its line end, and how many there are besides those that were kept.
+#[derive(Drop)]
+pub struct FaultLines<'r> {
+    pub reading: &'r Reading,
+    /// What stands behind how many there are besides, as `, which --all tells`.
+    pub hint: &'r str,
+}
+
+impl fmt::Display for FaultLines<'_> {
+    fn fmt<W: fmt::Write>(&self, f: &mut fmt::Formatter<W>) -> fmt::Result {
+        let (sources, more, hint) = (&self.reading.sources, self.reading.more_faults, self.hint);
+        for fault in self.reading.faults.iter() {
+            write!(f, "{}\n", FaultLine { sources, fault })?;
+        }
+        if more > 0 {
+            write!(f, "{}: and {more} more faults{hint}\n", sources.name(0))?;
+        }
+        Ok(())
     }
 }

@@ -1,17 +1,17 @@
 //! The records that a `$GENERATE` stands for: one for each number of its range, read as an entry of its own.
-ghost use Rattle.std.specs.Prelude.{◌≡◌, ◌++◌, ◌∷◌, [], Some, IfOk, OnOk, option_map};
+ghost use Rattle.std.specs.Prelude.{◌≡◌, ◌++◌, ◌∷◌, [], Some, IfErr, IfOk, OnOk, option_map};
 ghost use Rattle.zone_scanner.specs.declared.place.Place.{Place as PlaceValue};
 ghost use Rattle.zone_scanner.specs.Entries.{Whole, events_of};
 ghost use Rattle.zone_scanner.specs.Steps.{events_from};
-ghost use Rattle.zone_texts.specs.Generation.{generated, line_for, middle_text, range_of, record_for, record_of_line, records_by, template_of};
+ghost use Rattle.zone_texts.specs.Generation.{generated, line_for, middle_text, range_of, record_for, record_of_line, records_by, template_fault, template_of};
 ghost use Rattle.zone_texts.specs.Patterns.{filled};
 ghost use Rattle.zone_texts.specs.Inclusions.{gathered, placed_behind, with_records};
 ghost use Rattle.zone_texts.specs.Readings.{IsFaultless};
 
 use crate::fault::What;
 use crate::pattern::{PatternError, Range, push_pattern, read_range};
-use crate::state::{Part, Reading, copy_of_context};
-use record_fields::Reason;
+use crate::state::{Part, Reading, copy_of_context, with_word};
+use record_fields::{Fault, Reason};
 use std::alloc::{AllocError, AllocFailed, Global};
 use zone_file::{Context, PlacedRecord, ZoneError, ZoneFault, read_entry};
 use zone_proto::Record;
@@ -31,6 +31,8 @@ struct Template<'e> {
 enum Stop {
     /// A growth that the allocator refused.
     Memory,
+    /// What is wrong with a word of its entry.
+    Word(Fault),
     /// What is wrong, and where.
     At(Place, What),
 }
@@ -46,6 +48,13 @@ impl From<AllocError> for Stop {
 impl<T: Drop> From<AllocFailed<T>> for Stop {
     fn from(_: AllocFailed<T>) -> Stop {
         Stop::Memory
+    }
+}
+
+/// What is wrong with a word is `Word`.
+impl From<Fault> for Stop {
+    fn from(fault: Fault) -> Stop {
+        Stop::Word(fault)
     }
 }
 
@@ -66,6 +75,10 @@ pub(crate) fn generate(
     match put_records(alloc, &mut reading.records, context, part, entry.words()) {
         Ok(()) => Ok(()),
         Err(Stop::Memory) => Err(AllocError),
+        Err(Stop::Word(fault)) => {
+            let told = part.fault(with_word(alloc, entry.words(), fault)?);
+            reading.tell(told.at, told.what)
+        }
         Err(Stop::At(place, What::Entry(fault))) => {
             let at = part.place(place);
             let fault = ZoneFault {
@@ -105,10 +118,10 @@ fn put_records(
                 numbers,
             )
         }
-        _ => Err(missing(match words.last() {
+        _ => Err(Stop::Word(missing(match words.last() {
             Some(last) => last.place(),
             None => Place::first(),
-        })),
+        }))),
     }
 }
 
@@ -123,15 +136,19 @@ fn range_at(word: &Word) -> Result<Range, Stop>
 }
 
 /// The words from the owner on: TTL, class and type, of which the type alone has to be there, and data.
-fn template_of<'e>(owner: &'e Word, rest: &'e [Word]) -> Result<Template<'e>, Stop>
-    ensures { IfOk result (λ t. template_of owner.now rest.now ≡ Some (record {
+fn template_of<'e>(owner: &'e Word, rest: &'e [Word]) -> Result<Template<'e>, Fault>
+    ensures ok { IfOk result (λ t. template_of owner.now rest.now ≡ Some (record {
       owner = t.owner.now;
       middle = t.middle.now;
       data_word = t.data_word.now;
     })) }
+    ensures err { IfErr result (λ fault. template_fault owner.now rest.now ≡ Some fault) }
 {
     if owner.is_quoted() {
-        return Err(wrong(Reason::Quoted, owner.place()));
+        return Err(Fault {
+            place: owner.place(),
+            reason: Reason::Quoted,
+        });
     }
     match rest {
         [_, data_word] => Ok(Template {
@@ -149,27 +166,23 @@ fn template_of<'e>(owner: &'e Word, rest: &'e [Word]) -> Result<Template<'e>, St
             middle: &rest[..3],
             data_word,
         }),
-        [_, _, _, surplus, ..] => Err(wrong(Reason::Surplus, surplus.place())),
+        [_, _, _, _, surplus, ..] => Err(Fault {
+            place: surplus.place(),
+            reason: Reason::Surplus,
+        }),
         [last] => Err(missing(last.place())),
         [] => Err(missing(owner.place())),
     }
 }
 
 /// A word is missing behind the last one, at this place.
-fn missing(place: Place) -> Stop {
-    wrong(Reason::Missing, place)
-}
-
-/// A fault of an entry, without its word.
-fn wrong(reason: Reason, place: Place) -> Stop {
-    Stop::At(
+fn missing(place: Place) -> Fault
+    ensures { result ≡ record { place = place; reason = Reason.Missing } }
+{
+    Fault {
         place,
-        What::Entry(ZoneFault {
-            place,
-            reason,
-            word: None,
-        }),
-    )
+        reason: Reason::Missing,
+    }
 }
 
 /// Appends a record for each number of a range, at a place; what is wrong is told at the beginning of the entry.
@@ -322,6 +335,13 @@ fn end_line(alloc: Global, entries: EntryReader, begin: Place) -> Result<(), Sto
 fn stop_by(error: EntryError, begin: Place) -> Stop {
     match error {
         EntryError::Memory => Stop::Memory,
-        EntryError::Fault(fault) => wrong(Reason::Entry(fault.reason), begin),
+        EntryError::Fault(fault) => Stop::At(
+            begin,
+            What::Entry(ZoneFault {
+                place: begin,
+                reason: Reason::Entry(fault.reason),
+                word: None,
+            }),
+        ),
     }
 }

@@ -17,8 +17,8 @@ mod sources;
 mod state;
 mod texts;
 
-pub use fault::{FaultLine, FileFault, What};
+pub use fault::{FaultLine, FaultLines, FileFault, What};
 pub use files::{FilesError, read_files};
-pub use sources::{Chain, FilePlace, Sources};
+pub use sources::{Chain, FilePlace, Sources, ToldLine};
 pub use state::Reading;
 pub use texts::Texts;

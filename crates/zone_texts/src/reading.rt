@@ -1,9 +1,10 @@
 //! The records of a text and of those that it includes.
-ghost use Rattle.std.specs.Prelude.{◌≡◌, ℕ, List, [], Option, Some, IfOk, OnOk, IsNone, IfSome, string_bytes};
+ghost use Rattle.std.specs.Prelude.{◌≡◌, ℕ, List, [], drop, Option, Some, IfOk, OnOk, IsNone, IfSome, string_bytes};
 ghost use Rattle.zone_scanner.specs.Entries.{events_of};
 ghost use Rattle.zone_scanner.specs.Steps.{events_from};
+ghost use Rattle.zone_texts.specs.GoingOn.{GoesOnAt};
 ghost use Rattle.zone_texts.specs.Inclusions.{Files, Gathered, entries_read, file_read, gathered, included, origin_in, with_lines};
-ghost use Rattle.zone_texts.specs.Parts.{IsOpened, IsTold, IsWithin, read_behind};
+ghost use Rattle.zone_texts.specs.Parts.{GoesOnWith, IsOpened, IsTold, read_behind};
 ghost use Rattle.zone_texts.specs.Readings.{IsFaultless};
 
 use crate::directives::{Inclusion, take_entry};
@@ -28,9 +29,9 @@ const MOST_FILES: usize = 1_000;
 enum Next {
     /// Nothing: the text ends.
     End,
-    /// The text can't be cut into entries, and goes on behind so many octets of it, where an entry may begin.
+    /// The part can't be cut into entries, and the text goes on behind so many octets of it, where an entry may begin.
     Cut(usize),
-    /// A file is included; the text goes on behind so many octets of it.
+    /// A file is included; the part goes on behind so many octets of it.
     Include(Inclusion, EntryReader, usize),
 }
 
@@ -62,18 +63,20 @@ pub(crate) fn read_text<T: Texts>(
         rest = behind;
     }
     let mut entries = EntryReader::new(alloc);
+    let mut at = 0usize;
     'parts: for _ in 0..u64::MAX {
-        match next_part(alloc, reading, context, part, entries, rest)? {
+        match next_part(alloc, reading, context, part, entries, rest, at)? {
             Next::End => return Ok(()),
             Next::Cut(count) => {
                 let (taken, behind) = rest.split_at(count.min(rest.len()));
                 part.lines = part.lines.saturating_add(count_lines(taken));
                 rest = behind;
+                at = 0;
                 entries = EntryReader::new(alloc);
             }
             Next::Include(inclusion, behind, count) => {
                 include(alloc, texts, reading, context, part, name, inclusion, depth)?;
-                rest = &rest[count..];
+                at = count;
                 entries = behind;
             }
         }
@@ -206,11 +209,23 @@ fn open<T: Texts>(
         match texts.text(alloc, name.as_str()) {
             Ok(text) => return Ok(Some(put_file(reading, at, name, text)?)),
             Err(ErrorKind::OutOfMemory) => return Err(AllocError),
-            Err(kind) => What::Unreadable(name, kind),
+            Err(kind) => unread(name, kind),
         }
     };
     reading.tell(at, what)?;
     Ok(None)
+}
+
+/// Why the file of a name isn't read.
+fn unread(name: String, kind: ErrorKind) -> What
+    ensures folder { kind ≡ ErrorKind.IsADirectory → result ≡ What.Folder name }
+    ensures stream { kind ≡ ErrorKind.NotSeekable → result ≡ What.Stream name }
+{
+    match kind {
+        ErrorKind::IsADirectory => What::Folder(name),
+        ErrorKind::NotSeekable => What::Stream(name),
+        kind => What::Unreadable(name, kind),
+    }
 }
 
 /// Puts a file behind the others.
@@ -245,7 +260,8 @@ fn put_file(
     })
 }
 
-/// Reads a part of a text up to where it can't be cut into entries, or a file is included, or to its end, and gives what it goes on with.
+/// Reads a part of a text from behind so many octets of it up to where it can't be cut into entries, or a file is included, or to its
+/// end, and gives what it goes on with. `entries` has read what is before, and counts lines from the beginning of the part.
 fn next_part(
     alloc: Global,
     reading: &mut Reading,
@@ -253,19 +269,21 @@ fn next_part(
     part: Part,
     entries: EntryReader,
     text: &[u8],
+    start: usize,
 ) -> Result<Next, AllocError>
     ensures before { OnOk result (IsFaultless reading.new → IsFaultless reading.old) }
-    ensures within { IfOk result (λ next. IsWithin text.now next) }
     ensures cut { IfOk result (λ next. IsTold reading.new next) }
+    ensures behind { IfOk result (λ next.
+        GoesOnWith (events_from (drop start text.now) entries) text.now next) }
     ensures read { IfOk result (λ next. part.lines ≡ 0 → IsFaultless reading.new →
         (inner : List ℕ → Gathered → Option Gathered) (beside : List ℕ → List ℕ) →
-        entries_read inner beside part.before (events_from text.now entries)
+        entries_read inner beside part.before (events_from (drop start text.now) entries)
         (gathered context.old reading.old.records.items reading.old.sources.lines)
         ≡ read_behind inner beside part.before text.now next
         (gathered context.new reading.new.records.items reading.new.sources.lines)) }
 {
     let mut entries = entries;
-    let mut at = 0usize;
+    let mut at = start;
     while at < text.len() {
         match entries.take_entry(alloc, &text[at..]) {
             Ok((count, entry)) => {
@@ -276,7 +294,11 @@ fn next_part(
                     }
                 }
             }
-            Err(error) => return cut(reading, part, text, error),
+            Err(EntryError::Memory) => return Err(AllocError),
+            Err(EntryError::Fault(fault)) => {
+                let count = cut(reading, part, text, fault)?;
+                return Ok(Next::Cut(count));
+            }
         }
     }
     let next = last_part(alloc, reading, context, part, entries, text)?;
@@ -293,8 +315,8 @@ fn last_part(
     text: &[u8],
 ) -> Result<Next, AllocError>
     ensures before { OnOk result (IsFaultless reading.new → IsFaultless reading.old) }
-    ensures within { IfOk result (λ next. IsWithin text.now next) }
     ensures cut { IfOk result (λ next. IsTold reading.new next) }
+    ensures behind { IfOk result (λ next. GoesOnWith (events_from [] entries) text.now next) }
     ensures read { IfOk result (λ next. part.lines ≡ 0 → IsFaultless reading.new →
         (inner : List ℕ → Gathered → Option Gathered) (beside : List ℕ → List ℕ) →
         entries_read inner beside part.before (events_from [] entries)
@@ -311,29 +333,27 @@ fn last_part(
             }
             None => Ok(Next::End),
         },
-        Err(error) => cut(reading, part, text, error),
+        Err(EntryError::Memory) => Err(AllocError),
+        Err(EntryError::Fault(fault)) => {
+            let count = cut(reading, part, text, fault)?;
+            Ok(Next::Cut(count))
+        }
     }
 }
 
-/// Tells why a text can't be cut into entries, and where it may go on.
+/// Tells why a part of a text can't be cut into entries, and gives how many octets of it stand before where reading goes on.
 fn cut(
     reading: &mut Reading,
     part: Part,
     text: &[u8],
-    error: EntryError,
-) -> Result<Next, AllocError>
-    ensures within { IfOk result (λ next. IsWithin text.now next) }
-    ensures cut { IfOk result (λ next. IsTold reading.new next) }
+    fault: EntryFault,
+) -> Result<usize, AllocError>
     ensures told { OnOk result (IsFaultless reading.new → ⊥) }
+    ensures start { IfOk result (λ count. GoesOnAt text.now fault.place.line count) }
 {
-    match error {
-        EntryError::Memory => Err(AllocError),
-        EntryError::Fault(fault) => {
-            let line = fault.place.line;
-            tell_cut(reading, part, fault)?;
-            Ok(Next::Cut(octets_before_start(text, line)))
-        }
-    }
+    let line = fault.place.line;
+    tell_cut(reading, part, fault)?;
+    Ok(octets_before_start(text, line))
 }
 
 /// Tells why a text can't be cut into entries.

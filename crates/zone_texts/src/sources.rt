@@ -136,3 +136,29 @@ impl fmt::Display for Chain<'_> {
         Ok(())
     }
 }
+
+/// Something that is told of a place of the files that were read, as a line of text: file, line and column, what is told, and by which
+/// entries the file is included. Where the place isn't known, the name of the first file stands before it alone.
+#[derive(Drop)]
+pub struct ToldLine<'s, T: fmt::Display> {
+    pub sources: &'s Sources,
+    /// Its line is numbered through all files.
+    pub place: Option<Place>,
+    pub told: &'s T,
+}
+
+impl<T: fmt::Display> fmt::Display for ToldLine<'_, T> {
+    fn fmt<W: fmt::Write>(&self, f: &mut fmt::Formatter<W>) -> fmt::Result {
+        let (sources, told) = (self.sources, self.told);
+        let Some(place) = self.place else {
+            return write!(f, "{}: {told}", sources.name(0));
+        };
+        let at = sources.locate(place);
+        let (file, place) = (sources.name(at.file), at.place);
+        let chain = Chain {
+            sources,
+            file: at.file,
+        };
+        write!(f, "{file}:{}:{}: {told}{chain}", place.line, place.column)
+    }
+}

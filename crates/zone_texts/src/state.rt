@@ -5,10 +5,11 @@ ghost use Rattle.zone_texts.specs.Readings.{IsFaultless, with_fault};
 
 use crate::fault::{FileFault, What};
 use crate::sources::{FilePlace, Sources};
-use std::alloc::AllocError;
+use record_fields::Fault;
+use std::alloc::{AllocError, Global};
 use zone_file::{Context, PlacedRecord, ZoneFault};
-use zone_proto::Name;
-use zone_scanner::Place;
+use zone_proto::{Name, Seq};
+use zone_scanner::{Place, Word};
 
 /// What was read of a zone file and of those that it includes.
 #[derive(Drop)]
@@ -107,6 +108,31 @@ impl Part {
             }),
         }
     }
+}
+
+/// A fault with the word at its place.
+pub(crate) fn with_word(
+    alloc: Global,
+    words: &[Word],
+    fault: Fault,
+) -> Result<ZoneFault, AllocError>
+    ensures place { IfOk result (λ told. told.place ≡ fault.place) }
+    ensures reason { IfOk result (λ told. told.reason ≡ fault.reason) }
+{
+    let mut told = None;
+    for word in words {
+        if word.place() == fault.place {
+            match Seq::from_slice(alloc, word.octets()) {
+                Ok(octets) => told = Some(octets),
+                Err(_) => return Err(AllocError),
+            }
+        }
+    }
+    Ok(ZoneFault {
+        place: fault.place,
+        reason: fault.reason,
+        word: told,
+    })
 }
 
 /// A copy of a name.

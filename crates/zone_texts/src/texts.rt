@@ -16,7 +16,8 @@ pub trait Texts {
         ensures { (files : Files) → known self.now ≡ Some files →
             IfOk result (λ name. string_bytes name ≡ files.beside file.now word.now) };
 
-    /// The whole text of the file of a name, or why it can't be read.
+    /// The whole text of the file of a name, or why it can't be read: `IsADirectory` where a folder has that name, `NotSeekable` where
+    /// it is that of a pipe or a device.
     fn text(&mut self, alloc: Global, name: &str) -> Result<Vec<u8>, ErrorKind>
         ensures text { (files : Files) → known self.old ≡ Some files →
             IfOk result (λ text. text.items ≡ files.text name.now) }

@@ -1,5 +1,4 @@
 use Rattle.std.proofs.Common.{◌≡◌, ◌∙◌, ap, drop, refl, subst}
-use Rattle.std.proofs.lemmas.List.{take_rest}
 use Rattle.zone_scanner.specs.Entries.{events_of}
 use Rattle.zone_scanner.specs.Steps.{events_from}
 use Rattle.zone_texts.specs.declared.state.Part.{Part}
@@ -45,7 +44,7 @@ read_text-parts-preserved g t c = elim c.match-branch-3.branch [
         read = λ z f files known.
             let read = (rw w.in-Include.is at c.in_ok-next_part.ensures.read) (c.parts.invariant.begin (earlier f) z) (behind f) (file_read files c.args.depth) (files.beside c.args.name.now) in
             let inner = w.in_ok-include-in-Include.ensures.read (subst (λ (r : Reading). IsFaultless r) w.reading-is f) files (c.parts.invariant.known ∙ known) in
-            let rests : c.match-branch-3.rest.now ≡ drop w.in-Include.count c.parts.rest.now = rw w.rest-is (take_rest c.parts.rest.now w.in-Include.count) in
+            let rests : drop c.match-branch-3.at c.match-branch-3.rest.now ≡ drop w.in-Include.count c.parts.rest.now = rw (w.at-is, w.rest-is) refl in
             let states : gathered c.match-branch-3.context c.match-branch-3.reading.records.items c.match-branch-3.reading.sources.lines ≡ gathered w.include.new.context w.include.new.reading.records.items w.include.new.reading.sources.lines = rw (w.context-is, w.reading-is) refl in
             goes_on_with (file_read files c.args.depth) (files.beside c.args.name.now) c.args.part.before _ _ _ _ _ _ _
             (goes_on_behind (file_read files c.args.depth) (files.beside c.args.name.now) c.args.part.before c.parts.part.before _ _ _ _ _ _

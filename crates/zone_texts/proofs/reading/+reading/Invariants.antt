@@ -1,4 +1,4 @@
-use Rattle.std.proofs.Common.{◌≡◌, ◌+◌, ◌*◌, ℕ, List, Some}
+use Rattle.std.proofs.Common.{◌≡◌, ◌+◌, ◌*◌, ℕ, List, Some, drop}
 use Rattle.zone_scanner.specs.Entries.{events_of}
 use Rattle.zone_scanner.specs.Steps.{events_from}
 use Rattle.zone_texts.specs.Inclusions.{Files, entries_read, file_read, gathered}
@@ -19,5 +19,5 @@ invariant-read_text-parts g l = record {
   before : l.part.before ≡ l.fn.part.before;
   read : l.fn.part.lines ≡ 0 → IsFaultless l.reading → (files : Files) → g.T.Texts.known l.fn.texts ≡ Some files →
       entries_read (file_read files l.depth) (files.beside l.name) l.fn.part.before (events_of l.text) (gathered l.fn.context l.fn.reading.records.items l.fn.reading.sources.lines)
-      ≡ entries_read (file_read files l.depth) (files.beside l.name) l.fn.part.before (events_from l.rest l.entries) (gathered l.context l.reading.records.items l.reading.sources.lines);
+      ≡ entries_read (file_read files l.depth) (files.beside l.name) l.fn.part.before (events_from (drop l.at l.rest) l.entries) (gathered l.context l.reading.records.items l.reading.sources.lines);
 }
