@@ -2,5 +2,6 @@ pub mod LocationFacts
 pub mod NameFaults
 pub mod PairFacts
 pub mod ParameterFacts
+pub mod PrefixFacts
 pub mod RowFacts
 pub mod TypeFacts

@@ -4,7 +4,9 @@ use Rattle.zone_proto.specs.Names.{Name}
 use Rattle.record_fields.specs.declared.fault.Fault.{Fault}
 use Rattle.record_fields.specs.declared.field.Field.{Field}
 use Rattle.record_fields.specs.declared.field.Ending.{Ending}
-use Rattle.record_fields.specs.Readings.{◌>>=◌}
+use Rattle.record_fields.specs.declared.fault.ReadError.{ReadError}
+use Rattle.record_fields.specs.declared.fault.ReadError.TheVariants as errors
+use Rattle.record_fields.specs.Readings.{Fails, ◌>>=◌}
 use Rattle.record_fields.specs.Fields.{Left, Reading}
 use Rattle.record_fields.specs.Rows.{behind, next_field, next_fields}
 
@@ -49,10 +51,16 @@ field_more out new origin f fs e l left h = by (next_field origin f l) h
         ∙ further out x.0 (next_fields origin fs e x.1)
     by (Err t) g = absurd (cc)
 
-pub field_fault : (out : List ℕ) (origin : Name) (f : Field) (fs : List Field) (e : Ending) (l : Left) (t : Fault) → behind out (next_field origin f l) ≡ Err t
+field_fault : (out : List ℕ) (origin : Name) (f : Field) (fs : List Field) (e : Ending) (l : Left) (t : Fault) → behind out (next_field origin f l) ≡ Err t
     → behind out (next_fields origin (f ∷ fs) e l) ≡ Err t
 field_fault out origin f fs e l t h = by (next_field origin f l) h
   where
     by : (r : Reading (List ℕ)) → behind out r ≡ Err t → behind out (r >>= λ x. behind x.0 (next_fields origin fs e x.1)) ≡ Err t
     by (Ok x) g = absurd (cc)
     by (Err u) g = g
+
+pub row_fails : (out : List ℕ) (origin : Name) (f : Field) (fs gs : List Field) (e : Ending) (l : Left) (all : Reading (List ℕ)) (answered : ReadError)
+    → fs ≡ f ∷ gs → behind out (next_fields origin fs e l) ≡ all → Fails answered (behind out (next_field origin f l)) → Fails answered all
+row_fails out origin f fs gs e l all errors.Memory is same h = tt
+row_fails out origin f fs gs e l all (errors.Fault t) is same h =
+    sym same ∙ ap (λ (hs : List Field). behind out (next_fields origin hs e l)) is ∙ field_fault out origin f gs e l t h

@@ -4,7 +4,9 @@ pub mod Lines
 pub mod Locations
 pub mod Parameters
 pub mod Parts
+pub mod Prefixes
 pub mod Readings
 pub mod Rows
+pub mod Signs
 pub mod Texts
 pub mod TypeLists

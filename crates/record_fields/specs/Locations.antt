@@ -1,7 +1,6 @@
 -- Locations (RFC 1876): `DEGREES [MINUTES [SECONDS]] N DEGREES [MINUTES [SECONDS]] E ALTITUDE [SIZE [HORIZONTAL [VERTICAL]]]`
-use Rattle.std.specs.Prelude.{ℕ, zero, suc, ◌+◌, ◌-◌, ◌*◌, ◌/◌, ◌==◌, nat_le, nat_lt, not, List, [], ◌∷◌, ◌++◌, take, drop, Bool, true, false, Option, Some, None, option_map, if◌then◌else◌}
+use Rattle.std.specs.Prelude.{ℕ, zero, suc, ◌+◌, ◌-◌, ◌*◌, ◌/◌, ◌==◌, nat_le, nat_lt, List, [], ◌∷◌, ◌++◌, take, drop, Bool, true, false, Option, Some, None, option_map, if◌then◌else◌}
 use Rattle.std.specs.Char.{to_ascii_uppercase}
-use Rattle.std.specs.List.{prefix_len}
 use Rattle.line_text.specs.Numbers.{number_within}
 use Rattle.line_text.specs.Words.{words}
 use Rattle.message_reading.specs.Octets.{◌>>=◌}
@@ -9,6 +8,7 @@ use Rattle.record_fields.specs.declared.locations.Axis.{Axis}
 use Rattle.record_fields.specs.declared.locations.Location.{Location}
 use Rattle.record_fields.specs.declared.locations.TheConstants.{LATITUDE, LONGITUDE}
 use Rattle.record_fields.specs.Parts.{long}
+use Rattle.record_fields.specs.Signs.{before_sign, behind_sign, sign_at}
 
 abbrev pub next_text : List (List ℕ) → Option (List ℕ × List (List ℕ))
 next_text [] = None
@@ -20,14 +20,11 @@ within most n = if nat_le n most then Some n else None
 -- ---- numbers with a point
 
 -- what stands before the point, and behind it
-abbrev pub point_at : List ℕ → ℕ
-point_at w = prefix_len (λ b. not (b == 46)) w
-
 abbrev pub whole_part : List ℕ → List ℕ
-whole_part w = take (point_at w) w
+whole_part w = before_sign 46 w
 
 abbrev pub fraction : List ℕ → List ℕ
-fraction w = drop (point_at w + 1) w
+fraction w = behind_sign 46 w
 
 -- up to three digits behind a point, as thousandths, and up to two, as hundredths
 abbrev pub thousandths : List ℕ → Option ℕ
@@ -93,7 +90,7 @@ next_angle a ws =
 -- ---- lengths, in centimeters: meters with a point and an `m`, or without
 
 abbrev pub unit_at : List ℕ → ℕ
-unit_at w = prefix_len (λ b. not (b == 109)) w
+unit_at w = sign_at 109 w
 
 abbrev pub centimeters : List ℕ → Option ℕ
 centimeters w = number_within 10 4294967295 (whole_part w) >>= λ m. hundredths (fraction w) >>= λ c. Some (m * 100 + c)

@@ -13,12 +13,12 @@ use Rattle.record_fields.specs.declared.field.Ending.TheVariants as E
 use Rattle.record_fields.specs.declared.table.Row.{Row}
 use Rattle.record_fields.specs.declared.table.TheConstants.{ROWS}
 use Rattle.record_fields.specs.Readings.{◌>>=◌}
-use Rattle.record_fields.specs.Fields.{Left, Reading, next, next_algorithm, next_u8, next_u16, next_u32}
+use Rattle.record_fields.specs.Fields.{Left, Reading, next, next_algorithm, next_type, next_u8, next_u16, next_u32}
 use Rattle.record_fields.specs.Hosts.{next_gateway, next_identity, next_relay}
 use Rattle.record_fields.specs.Lines.{next_location}
 use Rattle.record_fields.specs.Parameters.{next_parameters}
-use Rattle.record_fields.specs.Parts.{as_octets, octet, short, long, next_certificate_type, next_digest_type, next_eui48, next_eui64, next_groups, next_name_octets, next_tag}
-use Rattle.record_fields.specs.Texts.{next_base64, next_base64_if_there, next_hex, next_names, next_octets, next_string, next_string_if_there, next_strings}
+use Rattle.record_fields.specs.Parts.{as_octets, octet, short, long, next_access_point, next_certificate_type, next_digest_type, next_eui48, next_eui64, next_groups, next_name_octets, next_scheme, next_tag, type_octets}
+use Rattle.record_fields.specs.Texts.{next_base64, next_base64_if_there, next_hex, next_names, next_octets, next_prefixes, next_string, next_string_if_there, next_strings}
 use Rattle.record_fields.specs.TypeLists.{next_type_map}
 
 -- the fields of a row, in their order
@@ -43,6 +43,8 @@ next_field origin F.Number32 l = as_octets long (next_u32 l)
 next_field origin F.Algorithm l = as_octets octet (next_algorithm l)
 next_field origin F.DigestType l = as_octets octet (next_digest_type l)
 next_field origin F.CertificateType l = as_octets short (next_certificate_type l)
+next_field origin F.RecordType l = as_octets type_octets (next_type l)
+next_field origin F.Scheme l = as_octets octet (next_scheme l)
 next_field origin F.Ipv4 l = next ipv4_of_word reason.Ipv4 l
 next_field origin F.Name l = next_name_octets origin l
 next_field origin F.Text l = next_string l
@@ -67,6 +69,8 @@ next_ending origin E.Names l = next_names origin l
 next_ending origin E.Parameters l = next_parameters l
 next_ending origin E.Types l = next_type_map l
 next_ending origin E.Location l = next_location l
+next_ending origin E.Prefixes l = next_prefixes l
+next_ending origin E.AccessPoint l = next_access_point l
 
 -- these octets, and then those that are read
 abbrev pub behind : List ℕ → Reading (List ℕ) → Reading (List ℕ)

@@ -1,4 +1,4 @@
--- What stands in the words to the end of an entry: strings, names, hex and base64, and data of any type as `\#`
+-- What stands in the words to the end of an entry: strings, names, address prefixes, hex and base64, and data of any type as `\#`
 use Rattle.std.specs.Prelude.{ℕ, ◌==◌, List, [], ◌∷◌, ◌++◌, Bool, false, Option, Some, None, Result, Ok, Err, length, if◌then◌else◌}
 use Rattle.base64.specs.Engines.{standard}
 use Rattle.base64.specs.GeneralPurpose.{decoded_of}
@@ -12,6 +12,7 @@ use Rattle.record_fields.specs.declared.fault.Reason.TheVariants as reason
 use Rattle.record_fields.specs.declared.fault.Fault.{Fault}
 use Rattle.record_fields.specs.Readings.{fault, or_else_fault, ◌>>=◌}
 use Rattle.record_fields.specs.Fields.{Left, Reading, left_at, named_at, next_any, next_word, next_u16, or_fault}
+use Rattle.record_fields.specs.Prefixes.{prefix_of_word}
 
 -- a string of at most 255 octets, in quotes or not, behind their count
 abbrev pub next_string : Left → Reading (List ℕ)
@@ -56,6 +57,16 @@ names_of origin (w ∷ ws) =
 
 abbrev pub next_names : Name → Left → Reading (List ℕ)
 next_names origin l = none_left l (names_of origin l.words)
+
+-- address prefixes, none or more, to the end of the entry (RFC 3123 section 5)
+abbrev pub prefixes_of : List WordText → Result (List ℕ) Fault
+prefixes_of [] = Ok []
+prefixes_of (w ∷ ws) =
+    if w.quoted then Err (fault w.place reason.Quoted)
+    else (or_else_fault (prefix_of_word w.octets) (fault w.place reason.Prefix) >>= λ os. (prefixes_of ws >>= λ more. Ok (os ++ more)))
+
+abbrev pub next_prefixes : Left → Reading (List ℕ)
+next_prefixes l = none_left l (prefixes_of l.words)
 
 -- Base64 and hex, to the end of the entry: "Whitespace is allowed within the Base64 text" (RFC 4034 section 2.2), and so it is
 -- in hex (section 5.3). So they are the words that are left, one behind the other, none in quotes. Where they aren't base64 or

@@ -64,6 +64,9 @@ pub enum Reason {
     /// A word that is no type of a certificate.
     #[error("a certificate type is needed here, by its number or mnemonic")]
     CertificateType,
+    /// A word that is no scheme of notifications.
+    #[error("a scheme is needed here, by its number or mnemonic")]
+    Scheme,
     /// A word that is no TTL.
     #[error("a TTL is needed here, of at most 2147483647 seconds, as 3600 or 1h30m")]
     Ttl,
@@ -136,6 +139,12 @@ pub enum Reason {
     /// Words that aren't a location.
     #[error("a location is needed here, as 60 9 0.000 N 24 39 0.000 E 10.00m 20m 2000m 20m")]
     Location,
+    /// A word that is no address prefix.
+    #[error("an address prefix is needed here, as 1:192.0.2.0/24 or !2:2001:db8::/32")]
+    Prefix,
+    /// A word that is no address of an access point.
+    #[error("0x and two hex digits for each octet are needed here")]
+    AccessPoint,
     /// Data that are longer than a record can have.
     #[error("data of more than 65535 octets")]
     TooLong,

@@ -15,6 +15,10 @@ pub enum Field {
     DigestType,
     /// The type of a certificate, of 16 bits, by its number or mnemonic (RFC 4398 section 2.1).
     CertificateType,
+    /// A type that records have, of 16 bits, by its word or number (RFC 9859 section 2.2).
+    RecordType,
+    /// A scheme of notifications, of 8 bits, by its number or mnemonic (RFC 9859 section 2.2).
+    Scheme,
     /// An IPv4 address.
     Ipv4,
     /// A domain name, in full and without pointers.
@@ -74,6 +78,10 @@ pub enum Ending {
     Types,
     /// A location of 16 octets (RFC 1876 section 2).
     Location,
+    /// Address prefixes, none or more (RFC 3123 section 4).
+    Prefixes,
+    /// The address of an access point to a network's services, one octet or more, written in hex behind `0x` (RFC 1706 section 7).
+    AccessPoint,
 }
 
 impl Fields {

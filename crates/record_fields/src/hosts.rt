@@ -8,9 +8,9 @@ ghost use Rattle.record_fields.specs.Hosts.{identity_octets, key_of_word, next_f
 use crate::fault::{ReadError, Reason};
 use crate::fields::{take_ipv4, take_ipv6, take_u8};
 use crate::names::push_name;
-use crate::parts::push_short;
 use crate::words::Words;
 use line_text::read_u8;
+use message_writing::push_short;
 use std::alloc::{AllocError, Global};
 use zone_proto::Name;
 use zone_tokens::{read_base64, read_hex_digits};
@@ -112,7 +112,7 @@ pub(crate) fn push_identity(
     let key = take_host_key(alloc, words)?;
     out.push(tag.len() as u8)?;
     out.push(algorithm)?;
-    push_short(key.len() as u16, out)?;
+    push_short(out, key.len() as u16)?;
     out.extend_from_slice(tag.as_slice())?;
     Ok(out.extend_from_slice(key.as_slice())?)
 }

@@ -14,7 +14,9 @@ mod locations;
 mod names;
 mod parameters;
 mod parts;
+mod prefixes;
 mod rows;
+mod signs;
 mod table;
 mod texts;
 mod type_lists;
@@ -29,6 +31,7 @@ pub use fields::{
 pub use locations::{Axis, LATITUDE, LONGITUDE, read_location};
 pub use names::take_name;
 pub use parts::is_tag;
+pub use prefixes::read_prefix;
 pub use rows::take_row;
 pub use table::{ROWS, Row, row_of};
 pub use texts::{take_base64, take_generic};

@@ -1,9 +1,10 @@
 //! Locations (RFC 1876).
-ghost use Rattle.std.specs.Prelude.{◌≡◌, ◌≤◌, ◌+◌, ◌<◌, drop, length, IfOk, IfSome, option_map};
-ghost use Rattle.record_fields.specs.Locations.{above_zero, altitude_of, angle_of, before_unit, behind_degrees, behind_minutes, below_zero, centimeters, direction_of, fraction, hundredths, length_of, location_of, location_of_line, minutes_of, next_angle, next_precision, next_text, point_at, power_form, precision_of, seconds_of, thousandths, toward, unit_at, whole_part, with_rest};
+ghost use Rattle.std.specs.Prelude.{◌≡◌, ◌≤◌, ◌+◌, ◌<◌, IfOk, IfSome, option_map};
+ghost use Rattle.record_fields.specs.Locations.{above_zero, altitude_of, angle_of, before_unit, behind_degrees, behind_minutes, below_zero, centimeters, direction_of, hundredths, length_of, location_of, location_of_line, minutes_of, next_angle, next_precision, next_text, power_form, precision_of, seconds_of, thousandths, toward, with_rest};
 
-use crate::parts::push_long;
+use crate::signs::{before_sign, behind_sign, sign_at};
 use line_text::{Words, read_u8, read_u16, read_u32};
+use message_writing::push_long;
 use std::alloc::{AllocError, Global};
 
 /// How far an angle is from zero at most, in thousandths of a second of arc, and the letters of the directions in which an angle counts up and down.
@@ -46,9 +47,9 @@ pub fn read_location(alloc: Global, line: &[u8]) -> Result<Option<Vec<u8>>, Allo
     octets.push(location.size)?;
     octets.push(location.horizontal)?;
     octets.push(location.vertical)?;
-    push_long(location.latitude, &mut octets)?;
-    push_long(location.longitude, &mut octets)?;
-    push_long(location.altitude, &mut octets)?;
+    push_long(&mut octets, location.latitude)?;
+    push_long(&mut octets, location.longitude)?;
+    push_long(&mut octets, location.altitude)?;
     Ok(Some(octets))
 }
 
@@ -154,43 +155,9 @@ fn seconds_of(word: &[u8]) -> Option<u32>
     ensures value { result ≡ seconds_of word.now }
     ensures small { IfSome result (λ n. n ≤ 200000) }
 {
-    let seconds = minutes_of(whole_part(word))?;
-    let thousandths = thousandths(fraction(word))?;
+    let seconds = minutes_of(before_sign(b'.', word))?;
+    let thousandths = thousandths(behind_sign(b'.', word))?;
     Some(u32::from(seconds) * 1000 + u32::from(thousandths))
-}
-
-/// How many octets stand before the point.
-fn point_at(word: &[u8]) -> usize
-    ensures value { result ≡ point_at word.now }
-    ensures within { result ≤ length word.now }
-{
-    word.iter().take_while(|octet| **octet != b'.').count()
-}
-
-/// What stands before the point.
-fn whole_part(word: &[u8]) -> &[u8]
-    ensures { result.now ≡ whole_part word.now }
-{
-    let (whole, _) = word.split_at(point_at(word));
-    whole
-}
-
-/// What stands behind the point.
-fn fraction(word: &[u8]) -> &[u8]
-    ensures { result.now ≡ fraction word.now }
-{
-    let (_, behind) = word.split_at(point_at(word));
-    without_first(behind)
-}
-
-/// Octets without the first of them.
-fn without_first(octets: &[u8]) -> &[u8]
-    ensures { result.now ≡ drop 1 octets.now }
-{
-    match octets {
-        [] => octets,
-        [_, others @ ..] => others,
-    }
 }
 
 /// Up to three digits behind a point, as thousandths.
@@ -218,19 +185,11 @@ fn hundredths(digits: &[u8]) -> Option<u8>
     }
 }
 
-/// How many octets stand before the unit.
-fn unit_at(word: &[u8]) -> usize
-    ensures value { result ≡ unit_at word.now }
-    ensures within { result ≤ length word.now }
-{
-    word.iter().take_while(|octet| **octet != b'm').count()
-}
-
 /// A length in meters, in centimeters.
 fn length_of(word: &[u8]) -> Option<u64>
     ensures { result ≡ length_of word.now }
 {
-    let (number, unit) = word.split_at(unit_at(word));
+    let (number, unit) = word.split_at(sign_at(b'm', word));
     match unit {
         [] | [_] => centimeters(number),
         _ => None,
@@ -241,8 +200,8 @@ fn length_of(word: &[u8]) -> Option<u64>
 fn centimeters(word: &[u8]) -> Option<u64>
     ensures { result ≡ centimeters word.now }
 {
-    let meters = read_u32(whole_part(word))?;
-    let hundredths = hundredths(fraction(word))?;
+    let meters = read_u32(before_sign(b'.', word))?;
+    let hundredths = hundredths(behind_sign(b'.', word))?;
     Some(u64::from(meters) * 100 + u64::from(hundredths))
 }
 

@@ -1,36 +1,19 @@
-//! Octets that one word writes: tags, groups of hex, octets with hyphens between them; and numbers as octets.
-ghost use Rattle.std.specs.Prelude.{◌≡◌, ◌≤◌, ◌++◌, Ok, Some, None, IfOk, OnOk, option_map, length};
+//! Octets that one word writes: tags, groups of hex, octets with hyphens between them, addresses of access points.
+ghost use Rattle.std.specs.Prelude.{◌≡◌, ◌≤◌, Ok, Some, None, IfOk, option_map, length};
 ghost use Rattle.std.specs.Char.{is_ascii_alphanumeric};
 ghost use Rattle.std.specs.List.{list_all};
 ghost use Rattle.line_text.specs.Hex.{hex_octet};
 ghost use Rattle.record_fields.specs.Readings.{Gives};
 ghost use Rattle.record_fields.specs.Fields.{Left};
 ghost use Rattle.record_fields.specs.Rows.{behind};
-ghost use Rattle.record_fields.specs.Parts.{is_tag, long, next_certificate_type, next_digest_type, next_eui48, next_eui64, next_groups, next_tag, pairs_of, pairs_of_word, short};
+ghost use Rattle.record_fields.specs.Parts.{access_point_of_word, is_tag, next_access_point, next_certificate_type, next_digest_type, next_eui48, next_eui64, next_groups, next_scheme, next_tag, pairs_of, pairs_of_word, scheme_named, without_dots};
 
 use crate::fault::{ReadError, Reason};
 use crate::names::push_counted;
 use crate::words::Words;
-use line_text::read_ipv6;
+use line_text::{read_ipv6, read_u8};
 use std::alloc::{AllocError, Global};
-use zone_tokens::{read_certificate_type, read_digest_type};
-
-/// Appends a number of 16 bits, the high octet first.
-pub(crate) fn push_short(number: u16, out: &mut Vec<u8>) -> Result<(), AllocError>
-    ensures { OnOk result (out.new.items ≡ out.old.items ++ short number) }
-{
-    out.push((number / 256) as u8)?;
-    out.push((number % 256) as u8)?;
-    Ok(())
-}
-
-/// Appends a number of 32 bits, the high half first.
-pub(crate) fn push_long(number: u32, out: &mut Vec<u8>) -> Result<(), AllocError>
-    ensures { OnOk result (out.new.items ≡ out.old.items ++ long number) }
-{
-    push_short((number / 65536) as u16, out)?;
-    push_short((number % 65536) as u16, out)
-}
+use zone_tokens::{read_certificate_type, read_digest_type, read_hex_digits, to_upper};
 
 /// Takes the type of a digest.
 pub(crate) fn take_digest_type(alloc: Global, words: &mut Words<'_>) -> Result<u8, ReadError>
@@ -51,6 +34,33 @@ pub(crate) fn take_certificate_type(alloc: Global, words: &mut Words<'_>) -> Res
     match read_certificate_type(alloc, word.octets())? {
         Some(value) => Ok(value),
         None => Err(words.fault(Reason::CertificateType)),
+    }
+}
+
+/// Takes a scheme of notifications.
+pub(crate) fn take_scheme(alloc: Global, words: &mut Words<'_>) -> Result<u8, ReadError>
+    ensures { Gives (λ x. (x, words.new)) result (next_scheme words.old) }
+{
+    let word = words.take()?;
+    match read_scheme(alloc, word.octets())? {
+        Some(value) => Ok(value),
+        None => Err(words.fault(Reason::Scheme)),
+    }
+}
+
+/// Reads a scheme of notifications: its number, or the one mnemonic that is registered (RFC 9859 section 6.2). None if the word is
+/// none.
+fn read_scheme(alloc: Global, word: &[u8]) -> Result<Option<u8>, AllocError>
+    ensures { IfOk result (λ scheme. scheme ≡ scheme_named word.now) }
+{
+    if let Some(number) = read_u8(word) {
+        return Ok(Some(number));
+    }
+    let upper = to_upper(alloc, word)?;
+    if upper.as_slice() == b"NOTIFY".as_slice() {
+        Ok(Some(1))
+    } else {
+        Ok(None)
     }
 }
 
@@ -131,6 +141,46 @@ pub(crate) fn push_eui64(
         Some(octets) => Ok(out.extend_from_slice(octets.as_slice())?),
         None => Err(words.fault(Reason::Eui64)),
     }
+}
+
+/// Takes the address of an access point, written in hex behind `0x`, and appends it.
+pub(crate) fn push_access_point(
+    alloc: Global,
+    words: &mut Words<'_>,
+    out: &mut Vec<u8>,
+) -> Result<(), ReadError>
+    ensures { Gives (λ _. (out.new.items, words.new)) result
+        (behind out.old.items (next_access_point words.old)) }
+{
+    let word = words.take()?;
+    match access_point_of_word(alloc, word.octets())? {
+        Some(octets) => Ok(out.extend_from_slice(octets.as_slice())?),
+        None => Err(words.fault(Reason::AccessPoint)),
+    }
+}
+
+/// The octets that hex digits behind `0x` write, with dots between them or not.
+fn access_point_of_word(alloc: Global, word: &[u8]) -> Result<Option<Vec<u8>>, AllocError>
+    ensures { IfOk result
+        (λ octets. option_map (λ o. o.items) octets ≡ access_point_of_word word.now) }
+{
+    match word {
+        [b'0', b'x' | b'X', digits @ ..] => {
+            let digits = without_dots(alloc, digits)?;
+            read_hex_digits(alloc, digits.as_slice())
+        }
+        _ => Ok(None),
+    }
+}
+
+/// A word without its dots.
+fn without_dots(alloc: Global, word: &[u8]) -> Result<Vec<u8>, AllocError>
+    ensures { IfOk result (λ octets. octets.items ≡ without_dots word.now) }
+{
+    word.iter()
+        .copied()
+        .filter(|octet| *octet != b'.')
+        .collect(alloc)
 }
 
 /// The octets that pairs of hex digits with hyphens between them write, if they are so many.

@@ -6,15 +6,16 @@ ghost use Rattle.record_fields.specs.Rows.{behind, fields_of, next_ending, next_
 
 use crate::fault::ReadError;
 use crate::field::{Ending, Field, Fields};
-use crate::fields::{take_algorithm, take_ipv4, take_u8, take_u16, take_u32};
+use crate::fields::{take_algorithm, take_ipv4, take_type, take_u8, take_u16, take_u32};
 use crate::hosts::{push_gateway, push_identity, push_relay};
 use crate::lines::push_location;
 use crate::names::{push_name, push_names};
 use crate::parameters::push_parameters;
 use crate::parts::{
-    push_eui48, push_eui64, push_groups, push_long, push_short, push_tag, take_certificate_type,
-    take_digest_type,
+    push_access_point, push_eui48, push_eui64, push_groups, push_tag, take_certificate_type,
+    take_digest_type, take_scheme,
 };
+use crate::prefixes::push_prefixes;
 use crate::table::Row;
 use crate::texts::{
     push_base64, push_base64_if_there, push_hex, push_octets, push_string, push_string_if_there,
@@ -22,6 +23,7 @@ use crate::texts::{
 };
 use crate::type_lists::push_type_map;
 use crate::words::Words;
+use message_writing::{push_long, push_short};
 use std::alloc::Global;
 use zone_proto::Name;
 
@@ -31,7 +33,7 @@ use zone_proto::Name;
 /// # Errors
 ///
 /// The first fault of the words; `Memory` if memory is refused.
-#[tactic(auto, using(crate::proofs::RowFacts::field_more, crate::proofs::RowFacts::field_fault, crate::proofs::RowFacts::behind_nothing))]
+#[tactic(auto, using(crate::proofs::RowFacts::field_more, crate::proofs::RowFacts::row_fails, crate::proofs::RowFacts::behind_nothing))]
 pub fn take_row(
     alloc: Global,
     origin: &Name,
@@ -63,11 +65,13 @@ fn push_field(
 {
     match field {
         Field::Number8 => Ok(out.push(take_u8(words)?)?),
-        Field::Number16 => Ok(push_short(take_u16(words)?, out)?),
-        Field::Number32 => Ok(push_long(take_u32(words)?, out)?),
+        Field::Number16 => Ok(push_short(out, take_u16(words)?)?),
+        Field::Number32 => Ok(push_long(out, take_u32(words)?)?),
         Field::Algorithm => Ok(out.push(take_algorithm(alloc, words)?)?),
         Field::DigestType => Ok(out.push(take_digest_type(alloc, words)?)?),
-        Field::CertificateType => Ok(push_short(take_certificate_type(alloc, words)?, out)?),
+        Field::CertificateType => Ok(push_short(out, take_certificate_type(alloc, words)?)?),
+        Field::RecordType => Ok(push_short(out, take_type(alloc, words)?.0)?),
+        Field::Scheme => Ok(out.push(take_scheme(alloc, words)?)?),
         Field::Ipv4 => Ok(out.extend_from_slice(&take_ipv4(words)?)?),
         Field::Name => push_name(alloc, origin, words, out),
         Field::Text => push_string(alloc, words, out),
@@ -104,5 +108,7 @@ fn push_ending(
         Ending::Parameters => push_parameters(alloc, words, out),
         Ending::Types => push_type_map(alloc, words, out),
         Ending::Location => push_location(alloc, words, out),
+        Ending::Prefixes => push_prefixes(alloc, words, out),
+        Ending::AccessPoint => push_access_point(alloc, words, out),
     }
 }

@@ -4,14 +4,14 @@ ghost use Rattle.record_fields.specs.Rows.{row_of};
 
 use crate::field::{Ending, Field, Fields};
 use Ending::{
-    Base64, Base64IfThere, Hex, Location, Names, Nothing, Octets, Parameters, TextIfThere, Texts,
-    Types,
+    AccessPoint, Base64, Base64IfThere, Hex, Location, Names, Nothing, Octets, Parameters,
+    Prefixes, TextIfThere, Texts, Types,
 };
 use Field::{
     Algorithm, CertificateType, DigestType, Eui48, Eui64, Gateway, Groups, Identity, Ipv4, Name,
-    Number8, Number16, Number32, Relay, Tag, Text,
+    Number8, Number16, Number32, RecordType, Relay, Scheme, Tag, Text,
 };
-use Fields::{NoField, One, Six, Three, Two};
+use Fields::{Four, NoField, One, Six, Three, Two};
 
 /// A row of the table: the number of a type, the fields of its data, and what stands behind them.
 #[derive(Clone, Copy, PartialEq, Eq, Debug)]
@@ -19,7 +19,7 @@ pub struct Row(pub u16, pub Fields, pub Ending);
 
 /// The types whose data are read and printed field by field, by their numbers. The data of any other type are parts of `RData`, or
 /// are read as `\#` alone.
-pub const ROWS: [Row; 58] = [
+pub const ROWS: [Row; 61] = [
     // MD, MF, MB, MG, MR, PTR (RFC 1035 section 3.3), NSAP-PTR (RFC 1348), DNAME (RFC 6672 section 2.1)
     Row(3, One(Name), Nothing),
     Row(4, One(Name), Nothing),
@@ -95,6 +95,11 @@ pub const ROWS: [Row; 58] = [
     // SVCB, HTTPS (RFC 9460 section 2.2)
     Row(64, Two(Number16, Name), Parameters),
     Row(65, Two(Number16, Name), Parameters),
+    // DSYNC (RFC 9859 section 2)
+    Row(66, Four(RecordType, Scheme, Number16, Name), Nothing),
+    // APL (RFC 3123 section 4), NSAP (RFC 1706 section 5)
+    Row(42, NoField, Prefixes),
+    Row(22, NoField, AccessPoint),
 ];
 
 /// The row of a type, by its number; none if it has none. Takes no memory.

@@ -7,6 +7,7 @@ use Rattle.std.proofs.lemmas.Bool.Decides.{leb_tells, nat_tests}
 use Rattle.zone_proto.specs.Names.{Name, IsName, wire_form}
 use Rattle.zone_proto.specs.Data.{same_octets}
 use Rattle.zone_proto.specs.Text.{name_text}
+use Rattle.zone_proto.specs.declared.record_type.RecordType.{RecordType}
 use Rattle.line_text.specs.Addresses.{ipv4_text, ipv6_text}
 use Rattle.line_text.specs.Numbers.{number_within}
 use Rattle.line_text.proofs.PrintedWords.{and_both}
@@ -19,25 +20,27 @@ use Rattle.record_fields.specs.declared.fault.Reason.{Reason}
 use Rattle.record_fields.specs.declared.fault.Reason.TheVariants as reason
 use Rattle.record_fields.specs.declared.field.Field.{Field}
 use Rattle.record_fields.specs.declared.field.Field.TheVariants as F
-use Rattle.record_fields.specs.Fields.{Left, next}
-use Rattle.record_fields.specs.Parts.{as_octets, groups_of_word, is_tag, long, octet, pairs_of_word, short, tag_of_word}
+use Rattle.record_fields.specs.Fields.{Left, is_of_messages, next, record_type_named}
+use Rattle.record_fields.specs.Parts.{as_octets, groups_of_word, is_tag, long, octet, pairs_of_word, scheme_named, short, tag_of_word}
 use Rattle.record_fields.specs.Rows.{next_field}
 use Rattle.record_fields.specs.Texts.{generic, is_generic}
 use Rattle.zone_file_writer.specs.Labels.{is_wire_form, labels_of}
 use Rattle.zone_file_writer.specs.Others.{string_word}
+use Rattle.zone_file_writer.specs.Printable.{IsRecordType}
 use Rattle.zone_file_writer.specs.Rows.{field_words, if_name, if_tag, name_front, name_length, name_word, number_word, one_word, pairs_text, pairs_word}
 use Rattle.zone_file_writer.specs.Strings.{escaped, strings_of}
-use Rattle.zone_file_writer.specs.Words.{PrintedWord, Bare, Quoted}
+use Rattle.zone_file_writer.specs.Words.{PrintedWord, Bare, Quoted, type_word}
 use Rattle.zone_file_writer.proofs.AddressesBack.{ipv4_back}
 use Rattle.zone_file_writer.proofs.LabelFacts.{named}
 use Rattle.zone_file_writer.proofs.Lines.{AreWordTexts, IsBareText, words_from}
 use Rattle.zone_file_writer.proofs.NamesBack.{first_of_name, name_there, not_generic}
-use Rattle.zone_file_writer.proofs.NumbersBack.{u8_back, u16_back, u32_back, algorithm_back}
+use Rattle.zone_file_writer.proofs.NumbersBack.{u8_back, u16_back, u32_back, algorithm_back, type_back}
 use Rattle.zone_file_writer.proofs.OwnFirst.{decimal_own, ipv4_own}
 use Rattle.zone_file_writer.proofs.PartsBack.{IsPart, groups_back, groups_part, pairs_back, pairs_part}
 use Rattle.zone_file_writer.proofs.PlacedWords.{last_from, left, place_from}
 use Rattle.zone_file_writer.proofs.StringFacts.{counted, front, octets_front, text_back}
-use Rattle.zone_file_writer.proofs.WordTexts.{decimal_text, ipv4_is_text, name_is_text, quoted_is_text, tag_in_word, tag_itself, tag_plain}
+use Rattle.zone_file_writer.proofs.TypesBack.{type_own}
+use Rattle.zone_file_writer.proofs.WordTexts.{decimal_text, ipv4_is_text, name_is_text, quoted_is_text, tag_in_word, tag_itself, tag_plain, type_is_text}
 
 abbrev pub AreOctets : List ℕ → Type 0
 AreOctets os = AllByRecursion (λ b. b < 256) os
@@ -236,6 +239,34 @@ name_field origin os h = by (name_front os) (name_cut os h)
       read = λ q p more. rw (name_there origin (labels_of x.0) of.name, of.wire) refl;
     }
 
+-- ---- types
+
+type_field : (origin : Name) (os : List ℕ) → AreOctets os → IsBackIf origin F.RecordType os (field_words F.RecordType os)
+type_field origin [] h = tt
+type_field origin (a ∷ []) h = tt
+type_field origin (a ∷ b ∷ rest) h = by (is_of_messages (a * 256 + b)) refl
+  where
+    by : (c : Bool) → is_of_messages (a * 256 + b) ≡ c
+        → IsBackIf origin F.RecordType (a ∷ b ∷ rest) (cond c None (Some (Bare (type_word (a * 256 + b)) ∷ [], rest)))
+    by true e = tt
+    by false e =
+        let small : a * 256 + b < 65536 = omega (arith, h.0, h.1.0) in
+        let t : RecordType = record { 0 = a * 256 + b } in
+        let is : IsRecordType t = record { range = small; records = e } in
+        let back : record_type_named (type_word (a * 256 + b)) ≡ Some t = type_back t is in
+        record {
+          front = short (a * 256 + b);
+          all = short_all a b rest h.0 h.1.0;
+          octets = h.1.1;
+          texts = (type_is_text (a * 256 + b) small, tt);
+          filled = refl;
+          own = λ p. type_own (a * 256 + b);
+          read = λ q p more. rw back refl;
+        }
+
+scheme_back : (n : ℕ) → n < 256 → scheme_named (decimal n) ≡ Some n
+scheme_back n h = rw (u8_back n h) refl
+
 -- ---- strings and tags
 
 pub string_back : (s : List ℕ) → AreOctets s → length s < 256 → string_of_word (escaped s) ≡ Some (counted s)
@@ -311,6 +342,8 @@ simple_back origin F.Algorithm os h gateway relay identity = octet_field origin 
 simple_back origin F.DigestType os h gateway relay identity = octet_field origin F.DigestType digest_type_named reason.DigestType (λ l. refl) digest_type_back os h
 simple_back origin F.CertificateType os h gateway relay identity =
     short_field origin F.CertificateType certificate_type_named reason.CertificateType (λ l. refl) certificate_type_back os h
+simple_back origin F.RecordType os h gateway relay identity = type_field origin os h
+simple_back origin F.Scheme os h gateway relay identity = octet_field origin F.Scheme scheme_named reason.Scheme (λ l. refl) scheme_back os h
 simple_back origin F.Ipv4 os h gateway relay identity = counted_field origin F.Ipv4 4 (λ a. Bare (ipv4_text a)) (ipv4_field origin) os h
 simple_back origin F.Name os h gateway relay identity = name_field origin os h
 simple_back origin F.Text os h gateway relay identity = string_field origin os h

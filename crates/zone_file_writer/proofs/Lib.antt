@@ -22,6 +22,8 @@ pub mod ParameterTexts
 pub mod ParametersBack
 pub mod PartsBack
 pub mod PlacedWords
+pub mod PrefixTexts
+pub mod PrefixesBack
 pub mod RecordsBack
 pub mod RowTexts
 pub mod RowsBack

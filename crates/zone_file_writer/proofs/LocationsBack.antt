@@ -187,7 +187,7 @@ line_read : (ts : List (List ℕ)) (p : Place) → line_of (words_from p (map Ba
 line_read [] p = refl
 line_read (t ∷ ts) p = rw (line_read ts (behind p (Bare t))) refl
 
-read_is : (os : List ℕ) (r : Option (List ℕ)) → is_octets os r ≡ true → r ≡ Some os
+pub read_is : (os : List ℕ) (r : Option (List ℕ)) → is_octets os r ≡ true → r ≡ Some os
 read_is os None h = absurd (cc)
 read_is os (Some read) h = ap (λ (t : List ℕ). Some t) (same read os h)
 

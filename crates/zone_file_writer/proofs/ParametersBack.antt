@@ -40,11 +40,11 @@ in_word_of true (b ∷ t) h = by (goes_on b) refl h (in_word_of false t)
     by true e g more = ((no_end b e).0, (no_end b e).1, more g)
     by false e g more = absurd (cc)
 
-record IsBareWord (t : List ℕ) : Type 0 where
-  text : IsBareText t
-  own : same_octets t generic ≡ false
+pub record IsBareWord (t : List ℕ) : Type 0 where
+  pub text : IsBareText t
+  pub own : same_octets t generic ≡ false
 
-bare_word : (t : List ℕ) → is_bare t ≡ true → IsBareWord t
+pub bare_word : (t : List ℕ) → is_bare t ≡ true → IsBareWord t
 bare_word [] h = absurd (cc)
 bare_word (b ∷ t) h = by (same_octets (b ∷ t) generic) refl h
   where

@@ -25,7 +25,7 @@ same_rest new rest text behind h = ap (λ (o : Option (List ℕ × List ℕ)). (
 
 -- ---- fields
 
-further : (text : List ℕ) (us : List PrintedWord) (o : Option (List PrintedWord)) → ended (text ++ behind_spaces us) o ≡ ended text (option_map (λ ws. us ++ ws) o)
+pub further : (text : List ℕ) (us : List PrintedWord) (o : Option (List PrintedWord)) → ended (text ++ behind_spaces us) o ≡ ended text (option_map (λ ws. us ++ ws) o)
 further text us None = refl
 further text us (Some ws) =
     ap (λ (t : List ℕ). Some t) (append_assoc text (behind_spaces us) (behind_spaces ws) ∙ ap (λ (t : List ℕ). text ++ t) (sym (behind-append us ws)))

@@ -13,12 +13,15 @@ use Rattle.message_reading.specs.TypeMaps.{types_of}
 use Rattle.message_writing.specs.DataText as maps
 use Rattle.zone_scanner.specs.declared.place.Place.{Place}
 use Rattle.zone_tokens.specs.Hex.{hex_text}
+use Rattle.record_fields.specs.declared.fault.Reason.{Reason}
+use Rattle.record_fields.specs.declared.fault.Reason.TheVariants as reason
 use Rattle.record_fields.specs.declared.field.Field.{Field}
 use Rattle.record_fields.specs.declared.field.Ending.{Ending}
 use Rattle.record_fields.specs.declared.field.Ending.TheVariants as E
 use Rattle.record_fields.specs.declared.table.Row.{Row}
-use Rattle.record_fields.specs.Fields.{Reading, left_at}
+use Rattle.record_fields.specs.Fields.{Reading, left_at, next}
 use Rattle.record_fields.specs.Locations.{location_of_line}
+use Rattle.record_fields.specs.Parts.{access_point_of_word}
 use Rattle.record_fields.specs.Rows.{fields_of, next_ending, next_fields, row_of}
 use Rattle.record_fields.specs.Texts as words
 use Rattle.record_fields.specs.Texts.{is_generic}
@@ -29,6 +32,7 @@ use Rattle.zone_file_writer.specs.Locations as locations
 use Rattle.zone_file_writer.specs.Locations.{is_octets, line_text, location_front, location_texts}
 use Rattle.zone_file_writer.specs.Others.{base64_text, hex_digits, octets_words, string_word}
 use Rattle.zone_file_writer.specs.Parameters.{are_read, if_read, read_texts, texts_within}
+use Rattle.zone_file_writer.specs.Prefixes.{prefixes_within}
 use Rattle.zone_file_writer.specs.Rows.{all_strings, ending_words, field_words, fields_words, name_front, name_word, names_within, other_words, row_words, some_words, string_alone, words_by_row, words_or_octets}
 use Rattle.zone_file_writer.specs.Strings.{strings_of, strings_within}
 use Rattle.zone_file_writer.specs.TypeLists.{ascend_from, if_map_of}
@@ -38,14 +42,15 @@ use Rattle.zone_file_writer.proofs.FieldsBack.{AreOctets, IsBack, IsBackIf, IsNa
 use Rattle.zone_file_writer.proofs.HostsBack.{gateway_back, identity_back, relay_back}
 use Rattle.zone_file_writer.proofs.Lines.{AreWordTexts, words_from}
 use Rattle.zone_file_writer.proofs.LocationsBack.{location_back}
-use Rattle.zone_file_writer.proofs.NamesBack.{first_of_name, name_there}
+use Rattle.zone_file_writer.proofs.NamesBack.{first_of_name, name_there, not_generic}
 use Rattle.zone_file_writer.proofs.NumbersBack.{digits_back}
 use Rattle.zone_file_writer.proofs.ParametersBack.{parameters_back, same}
 use Rattle.zone_file_writer.proofs.PlacedWords.{behind, last_from, left, place_from}
+use Rattle.zone_file_writer.proofs.PrefixesBack.{ArePrefixesIf, access_point_back, prefixes_back}
 use Rattle.zone_file_writer.proofs.StringFacts.{AreStrings, counted, joined_strings, strings_in, text_back}
 use Rattle.zone_file_writer.proofs.OwnFirst.{hex_own}
 use Rattle.zone_file_writer.proofs.TypesBack.{type_own, type_texts, types_are_texts, types_ascend, types_read}
-use Rattle.zone_file_writer.proofs.WordTexts.{digits_are_text, name_is_text, quoted_is_text}
+use Rattle.zone_file_writer.proofs.WordTexts.{access_point_is_text, digits_are_text, name_is_text, quoted_is_text}
 
 -- octets are read, and no word is left
 pub record AreRead (os : List ℕ) (r : Reading (List ℕ)) : Type 0 where
@@ -236,6 +241,27 @@ location_form origin os h = by (location_front os) refl
     by None e = tt
     by (Some p) e = at p e (is_octets os (location_of_line (line_text (location_texts p)))) refl
 
+prefixes_form : (origin : Name) (os : List ℕ) → IsRowBackIf origin [] E.Prefixes os (ending_words E.Prefixes os)
+prefixes_form origin os = by (prefixes_within (length os) os) (prefixes_back (length os) os)
+  where
+    by : (o : Option (List PrintedWord)) → ArePrefixesIf os o → IsRowBackIf origin [] E.Prefixes os o
+    by None are = tt
+    by (Some ws) are = record { texts = are.texts; own = are.own; read = λ q p. record { place = q; is = rw (are.read p) refl } }
+
+one_read : (read : List ℕ → Option (List ℕ)) (why : Reason) (t os : List ℕ) (q p : Place) → read t ≡ Some os → next read why (left q p (Bare t ∷ [])) ≡ Ok (os, left_at p [])
+one_read read why t os q p h = rw h refl
+
+access_point_form : (origin : Name) (os : List ℕ) → AreOctets os → IsRowBackIf origin [] E.AccessPoint os (ending_words E.AccessPoint os)
+access_point_form origin [] h = tt
+access_point_form origin (o ∷ os) h = record {
+  texts = (access_point_is_text o os h, tt);
+  own = λ p. not_generic 48 (120 ∷ hex_digits (o ∷ os)) refl;
+  read = λ q p. record {
+    place = p;
+    is = one_read access_point_of_word reason.AccessPoint (48 ∷ 120 ∷ hex_digits (o ∷ os)) (o ∷ os) q p (access_point_back o os h);
+  };
+}
+
 ending_back : (origin : Name) (e : Ending) (os : List ℕ) → AreOctets os → IsRowBackIf origin [] e os (ending_words e os)
 ending_back origin E.Nothing os h = nothing_back origin os
 ending_back origin E.Texts os h = texts_back origin os h
@@ -248,6 +274,8 @@ ending_back origin E.Names os h = names_form origin os h
 ending_back origin E.Parameters os h = parameters_form origin os
 ending_back origin E.Types os h = types_form origin os
 ending_back origin E.Location os h = location_form origin os h
+ending_back origin E.Prefixes os h = prefixes_form origin os
+ending_back origin E.AccessPoint os h = access_point_form origin os h
 
 -- ---- rows
 

@@ -326,6 +326,12 @@ hex_digits_in_word (b ∷ bs) h = hex_and b (hex_digits bs) h.0 (hex_digits_in_w
 pub digits_are_text : (b : ℕ) (bs : List ℕ) → AllByRecursion (λ b. b < 256) (b ∷ bs) → IsBareText (hex_digits (b ∷ bs))
 digits_are_text b bs h = hex_digits_in_word (b ∷ bs) h
 
+-- behind `0x`
+pub access_point_is_text : (b : ℕ) (bs : List ℕ) → AllByRecursion (λ b. b < 256) (b ∷ bs) → IsBareText (48 ∷ 120 ∷ hex_digits (b ∷ bs))
+access_point_is_text b bs h =
+    harmless_in_word 48 (120 ∷ hex_digits (b ∷ bs)) (harmless 48 (omega arith) refl refl)
+    (harmless_in_word 120 (hex_digits (b ∷ bs)) (harmless 120 (omega arith) refl refl) (hex_digits_in_word (b ∷ bs) h))
+
 -- ---- dates
 
 two_and : (n : ℕ) (t : List ℕ) → IsInWord false t → IsInWord false (two_digits n ++ t)

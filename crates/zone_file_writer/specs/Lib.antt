@@ -5,6 +5,7 @@ pub mod Locations
 pub mod Laws
 pub mod Moments
 pub mod Parameters
+pub mod Prefixes
 pub mod Others
 pub mod Printable
 pub mod Printing

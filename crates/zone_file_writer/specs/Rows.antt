@@ -12,6 +12,7 @@ use Rattle.record_fields.specs.declared.field.Field.TheVariants as F
 use Rattle.record_fields.specs.declared.field.Ending.{Ending}
 use Rattle.record_fields.specs.declared.field.Ending.TheVariants as E
 use Rattle.record_fields.specs.declared.table.Row.{Row}
+use Rattle.record_fields.specs.Fields.{is_of_messages}
 use Rattle.record_fields.specs.Parts.{is_tag}
 use Rattle.record_fields.specs.Rows.{fields_of, row_of}
 use Rattle.zone_file_writer.specs.Addresses.{address_text}
@@ -19,9 +20,10 @@ use Rattle.zone_file_writer.specs.Labels.{is_wire_form, labels_of}
 use Rattle.zone_file_writer.specs.Locations.{location_words}
 use Rattle.zone_file_writer.specs.Others.{base64_text, hex_digits, octets_words, string_word}
 use Rattle.zone_file_writer.specs.Parameters.{parameters_words}
+use Rattle.zone_file_writer.specs.Prefixes.{prefixes_within}
 use Rattle.zone_file_writer.specs.Strings.{escaped, strings_of}
 use Rattle.zone_file_writer.specs.TypeLists.{types_words}
-use Rattle.zone_file_writer.specs.Words.{PrintedWord, Bare, word_text}
+use Rattle.zone_file_writer.specs.Words.{PrintedWord, Bare, type_word, word_text}
 
 -- one word of what was read at the front
 abbrev pub one_word : {X : Type 0} → (X → PrintedWord) → Option (X × List ℕ) → Option (List PrintedWord × List ℕ)
@@ -48,6 +50,10 @@ name_word os = Bare (name_text (labels_of os))
 -- the tag of a CAA
 abbrev pub if_tag : List ℕ × List ℕ → Option (List PrintedWord × List ℕ)
 if_tag s = if is_tag s.0 then Some (Bare (escaped s.0) ∷ [], s.1) else None
+
+-- a type, if records have it
+abbrev pub if_type : ℕ × List ℕ → Option (List PrintedWord × List ℕ)
+if_type x = if is_of_messages x.0 then None else Some (Bare (type_word x.0) ∷ [], x.1)
 
 -- octets in hex with hyphens between them
 abbrev pub further_pairs : List ℕ → List ℕ
@@ -113,6 +119,8 @@ field_words F.Number32 os = one_word number_word (long_of os)
 field_words F.Algorithm os = one_word number_word (octet_of os)
 field_words F.DigestType os = one_word number_word (octet_of os)
 field_words F.CertificateType os = one_word number_word (short_of os)
+field_words F.RecordType os = short_of os >>= if_type
+field_words F.Scheme os = one_word number_word (octet_of os)
 field_words F.Ipv4 os = one_word (λ a. Bare (ipv4_text a)) (octets_of 4 os)
 field_words F.Name os = one_word name_word (name_front os)
 field_words F.Text os = one_word string_word (counted_of os)
@@ -160,6 +168,9 @@ ending_words E.Names os = names_within (length os) os
 ending_words E.Parameters os = parameters_words os
 ending_words E.Types os = types_words os
 ending_words E.Location os = location_words os
+ending_words E.Prefixes os = prefixes_within (length os) os
+ending_words E.AccessPoint [] = None
+ending_words E.AccessPoint (b ∷ os) = Some (Bare (48 ∷ 120 ∷ hex_digits (b ∷ os)) ∷ [])
 
 -- fields, one behind the other, and what stands behind them
 abbrev pub fields_words : List Field → Ending → List ℕ → Option (List PrintedWord)

@@ -34,6 +34,7 @@ further_words =
     ∷ record { number = 19; text = codes "X25" }
     ∷ record { number = 20; text = codes "ISDN" }
     ∷ record { number = 21; text = codes "RT" }
+    ∷ record { number = 22; text = codes "NSAP" }
     ∷ record { number = 23; text = codes "NSAP-PTR" }
     ∷ record { number = 25; text = codes "KEY" }
     ∷ record { number = 26; text = codes "PX" }
@@ -46,6 +47,7 @@ further_words =
     ∷ record { number = 37; text = codes "CERT" }
     ∷ record { number = 39; text = codes "DNAME" }
     ∷ record { number = 40; text = codes "SINK" }
+    ∷ record { number = 42; text = codes "APL" }
     ∷ record { number = 44; text = codes "SSHFP" }
     ∷ record { number = 45; text = codes "IPSECKEY" }
     ∷ record { number = 49; text = codes "DHCID" }
@@ -62,6 +64,7 @@ further_words =
     ∷ record { number = 63; text = codes "ZONEMD" }
     ∷ record { number = 64; text = codes "SVCB" }
     ∷ record { number = 65; text = codes "HTTPS" }
+    ∷ record { number = 66; text = codes "DSYNC" }
     ∷ record { number = 99; text = codes "SPF" }
     ∷ record { number = 104; text = codes "NID" }
     ∷ record { number = 105; text = codes "L32" }

@@ -9,9 +9,11 @@ use crate::fronts::{front_long, front_name, front_octets, front_short};
 use crate::labels::LabelsText;
 use crate::pairs::{GroupsText, PairsText};
 use crate::strings::{EscapedText, QuotedText, split_string};
-use record_fields::is_tag;
+use crate::types::TypeText;
+use record_fields::{is_of_messages, is_tag};
 use std::alloc::AllocError;
 use std::fmt::Write;
+use zone_proto::RecordType;
 
 /// Appends a number of 8 bits.
 pub(crate) fn push_octet<'o>(
@@ -59,6 +61,27 @@ pub(crate) fn push_long<'o>(
         None => Ok(None),
         Some((number, rest)) => {
             write!(text, " {number}")?;
+            Ok(Some(rest))
+        }
+    }
+}
+
+/// Appends a type, if records have it.
+pub(crate) fn push_type<'o>(
+    octets: &'o [u8],
+    text: &mut String,
+) -> Result<Option<&'o [u8]>, AllocError>
+    ensures { IfOk result (λ rest. option_map (λ r. (string_bytes text.new, r.now)) rest
+        ≡ appended (string_bytes text.old) (field_words field.RecordType octets.now)) }
+{
+    match front_short(octets) {
+        None => Ok(None),
+        Some((number, rest)) => {
+            let record_type = RecordType(number);
+            if is_of_messages(record_type) {
+                return Ok(None);
+            }
+            write!(text, " {}", TypeText(record_type))?;
             Ok(Some(rest))
         }
     }

@@ -16,6 +16,7 @@ mod octets;
 mod other;
 mod pairs;
 mod parameters;
+mod prefixes;
 mod record;
 mod rows;
 mod signing;

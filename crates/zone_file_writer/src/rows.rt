@@ -4,12 +4,13 @@ ghost use Rattle.zone_file_writer.specs.Rows.{appended, behind_spaces, ended, en
 
 use crate::fields::{
     push_groups, push_ipv4, push_long, push_name, push_octet, push_pairs, push_short, push_string,
-    push_tag,
+    push_tag, push_type,
 };
 use crate::hosts::{push_gateway, push_identity, push_relay};
 use crate::locations::push_location;
 use crate::octets::{Base64Text, HexText};
 use crate::parameters::push_parameters;
+use crate::prefixes::push_prefixes;
 use crate::strings::{FurtherStrings, QuotedText, split_string, split_strings};
 use crate::type_lists::push_type_list;
 use record_fields::{Ending, Field, Row};
@@ -55,9 +56,12 @@ fn push_field<'o>(
         ≡ appended (string_bytes text.old) (field_words field octets.now)) }
 {
     match field {
-        Field::Number8 | Field::Algorithm | Field::DigestType => push_octet(octets, text),
+        Field::Number8 | Field::Algorithm | Field::DigestType | Field::Scheme => {
+            push_octet(octets, text)
+        }
         Field::Number16 | Field::CertificateType => push_short(octets, text),
         Field::Number32 => push_long(octets, text),
+        Field::RecordType => push_type(octets, text),
         Field::Ipv4 => push_ipv4(octets, text),
         Field::Name => push_name(octets, text),
         Field::Text => push_string(octets, text),
@@ -96,6 +100,8 @@ fn push_ending(
         Ending::Parameters => push_parameters(alloc, octets, text),
         Ending::Types => push_type_list(alloc, octets, text),
         Ending::Location => push_location(alloc, octets, text),
+        Ending::Prefixes => push_prefixes(alloc, octets, text),
+        Ending::AccessPoint => push_access_point(octets, text),
     }
 }
 
@@ -140,6 +146,20 @@ fn push_hex(octets: &[u8], text: &mut String) -> Result<bool, AllocError>
         [] => Ok(false),
         [_, ..] => {
             write!(text, " {}", HexText(octets))?;
+            Ok(true)
+        }
+    }
+}
+
+/// Appends octets in hex behind `0x`, if they are some.
+fn push_access_point(octets: &[u8], text: &mut String) -> Result<bool, AllocError>
+    ensures { IfOk result (λ is. (if is then Some (string_bytes text.new) else None)
+        ≡ ended (string_bytes text.old) (ending_words Ending.AccessPoint octets.now)) }
+{
+    match octets {
+        [] => Ok(false),
+        [_, ..] => {
+            write!(text, " 0x{}", HexText(octets))?;
             Ok(true)
         }
     }

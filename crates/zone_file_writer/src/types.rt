@@ -24,7 +24,7 @@ impl fmt::Display for TypeText {
 }
 
 /// The words of the types that have a row in the table of `record_fields`, where `RecordType` has none.
-const FURTHER_WORDS: [(u16, &str); 56] = [
+const FURTHER_WORDS: [(u16, &str); 59] = [
     (3, "MD"),
     (4, "MF"),
     (7, "MB"),
@@ -38,6 +38,7 @@ const FURTHER_WORDS: [(u16, &str); 56] = [
     (19, "X25"),
     (20, "ISDN"),
     (21, "RT"),
+    (22, "NSAP"),
     (23, "NSAP-PTR"),
     (25, "KEY"),
     (26, "PX"),
@@ -50,6 +51,7 @@ const FURTHER_WORDS: [(u16, &str); 56] = [
     (37, "CERT"),
     (39, "DNAME"),
     (40, "SINK"),
+    (42, "APL"),
     (44, "SSHFP"),
     (45, "IPSECKEY"),
     (49, "DHCID"),
@@ -66,6 +68,7 @@ const FURTHER_WORDS: [(u16, &str); 56] = [
     (63, "ZONEMD"),
     (64, "SVCB"),
     (65, "HTTPS"),
+    (66, "DSYNC"),
     (99, "SPF"),
     (104, "NID"),
     (105, "L32"),

@@ -1,4 +1,3 @@
-use Rattle.std.proofs.Common.{◌≡◌}
 use Rattle.record_fields.proofs.TypeFacts.{sorted_once}
 use Rattle.record_fields.proofs.type_lists.ascending.Goals as goal
 
