@@ -6,6 +6,7 @@
   ./sign answer PLAN --keys FOLDER -o SIGNATURES       signs that, for example on another machine, which has the private keys
   ./sign finish ZONE --keys FOLDER --plan PLAN --signatures SIGNATURES [-o FILE]
   ./sign ZONE --keys FOLDER --ds                       writes the DS records for the parent zone
+  ./sign verify ZONE [--origin NAME]                   verifies each signature of a signed zone by the keys in it
   ./sign ZONE --digest [--keys FOLDER] [-o FILE]       writes the zone with its ZONEMD record made anew, and nothing else
 
   --origin NAME             the origin of the zone, if it isn't the owner of the first SOA in the file, or if the folder has keys of
@@ -45,12 +46,16 @@ import time
 sys.dont_write_bytecode = True
 
 import running
+import signatures
 from signing_keys import fail, names, public_of, publics, signers, tag_of, verifier_of
 
 DAY = 86400
 
 # What ends a plan: a frame without octets.
 END = (0, 0)
+
+# How many faults of signatures are told.
+MOST_TOLD = 20
 
 # How often signatures that would stay are verified, where some of them turn out to be wrong.
 MOST_ROUNDS = 5
@@ -204,9 +209,9 @@ def passed_on(mode, it):
     return ran.returncode
 
 
-def standing_in(it):
-    """The signatures that would stay, each with what it is made of."""
-    with subprocess.Popen(call("standing", it), stdout=subprocess.PIPE, stdin=subprocess.DEVNULL) as ran:
+def standing_in(it, mode="standing"):
+    """The signatures that would stay, or all those of the zone, each with what it is made of."""
+    with subprocess.Popen(call(mode, it), stdout=subprocess.PIPE, stdin=subprocess.DEVNULL) as ran:
         try:
             found = list(standing(ran.stdout))
         except EOFError:
@@ -312,6 +317,21 @@ def finish(it):
     return signed(it, kept)
 
 
+def verify(it):
+    """Verifies each signature of a zone, by the keys in it."""
+    count, faults = signatures.faults_of(standing_in(it, "signatures"))
+    for why in faults[:MOST_TOLD]:
+        running.say("sign", f"{it.zone}: {why}")
+    if len(faults) > MOST_TOLD:
+        running.say("sign", f"{it.zone}: {len(faults) - MOST_TOLD} faults more")
+    if not count:
+        running.say("sign", f"{it.zone}: there is no signature")
+    if faults or not count:
+        return 1
+    print(f"{it.zone}: {count} signatures are valid")
+    return 0
+
+
 def with_digest(it, answer):
     """Signs the zone, and then puts its digest into it."""
     with tempfile.NamedTemporaryFile() as between:
@@ -320,9 +340,9 @@ def with_digest(it, answer):
 
 
 def main(words):
-    mode = words[0] if words and words[0] in ("plan", "answer", "finish") else None
+    mode = words[0] if words and words[0] in ("plan", "answer", "finish", "verify") else None
     it = options(words[1:] if mode else words)
-    if not it.keys and (mode or it.ds or not it.digest):
+    if not it.keys and mode != "verify" and (mode or it.ds or not it.digest):
         fail("--keys is missing, the folder with the keys")
     if it.digest and (it.zonemd or it.again is not None):
         fail("--digest goes with neither --zonemd nor --again")
@@ -335,7 +355,7 @@ def main(words):
     it.start = now - 3600 if it.start is None else it.start
     it.end = now + 30 * DAY if it.end is None else it.end
     if mode:
-        return {"plan": plan, "answer": answer, "finish": finish}[mode](it)
+        return {"plan": plan, "answer": answer, "finish": finish, "verify": verify}[mode](it)
     if it.ds:
         return passed_on("ds", it)
     keys = signers(it.keys, names(key_files(it)))

@@ -4,9 +4,9 @@
   tools/compare/signers.py [--rounds N] [--seed N]
 
 The zones have delegations with glue at and below the cut, wildcards, CNAME, DNAME, empty non-terminals and names in mixed case; they are
-signed with NSEC, with NSEC3 and with opt-out. dnssec-verify, ldns-verify-zone, kzonecheck and zone_check have to accept what ./sign
-writes, and what it writes if it signs that again; and it has to have the same denials, record by record, as that of each other signer, and the same signatures, by owner, type, key,
-labels and TTL, except for what CHOICES lists. Prints how many were compared. The status is 1 if any of that isn't so.
+signed with NSEC, with NSEC3 and with opt-out. dnssec-verify, ldns-verify-zone, kzonecheck, zone_check and ./sign verify
+have to accept what ./sign writes, and what it writes if it signs that again; and it has to have the same denials, record by record, as
+that of each other signer, and the same signatures, by owner, type, key, labels and TTL, except for what CHOICES lists. Prints how many were compared. The status is 1 if any of that isn't so.
 
 The tools are Debian's packages bind9-utils, ldnsutils and knot-dnssecutils.
 """
@@ -42,6 +42,7 @@ JUDGES = {
     "ldns-verify-zone": lambda path, origin: ["ldns-verify-zone", path],
     "kzonecheck": lambda path, origin: ["kzonecheck", "-o", origin, "-d", "on", path],
     "zone_check": lambda path, origin: [f"{TOP}/zone_check", path, origin],
+    "sign verify": lambda path, origin: [f"{TOP}/sign", "verify", path, "--origin", origin],
 }
 
 

@@ -7,7 +7,8 @@
 //! the DS records of the keys. With `--old`, signatures of that earlier version of the signed zone stay if they are of the same records
 //! and hold from the first moment on for `--again` seconds, except for those in the file of `--wrong`, each preceded by its length in
 //! two octets; `standing` writes what stays: how many octets a signature is made of, in four octets, these octets, its length in two,
-//! and the signature; four octets that are 0 come last. Moments are in seconds since 1970. Signatures expire up to `--jitter` seconds before the last moment,
+//! and the signature; four octets that are 0 come last. `signatures` writes the same of all signatures of a signed zone, for which
+//! FILE alone is needed. Moments are in seconds since 1970. Signatures expire up to `--jitter` seconds before the last moment,
 //! those at one name together; `--key-ttl` is the TTL of the records of keys, otherwise 3600; with `--cds` the zone has CDS and
 //! CDNSKEY records (RFC 7344).
 #![tactic(auto)]
@@ -20,6 +21,7 @@ mod keeping;
 mod keys;
 mod reading;
 mod reporting;
+mod signatures;
 mod signing;
 mod wanted;
 
@@ -31,7 +33,7 @@ use std::{env, io};
 use wanted::{Mode, Wanted, wanted_by};
 
 const USAGE: &[u8] =
-    b"usage: zone_sign plan|sign|standing|ds FILE [--origin NAME] --from N --until N [--jitter N] [--key-ttl N] [--cds] [--zonemd | --digest] [--nsec3 SALT ITERATIONS [--opt-out]] [--old FILE --again N [--wrong FILE]] --key FILE..\n";
+    b"usage: zone_sign plan|sign|standing|signatures|ds FILE [--origin NAME] --from N --until N [--jitter N] [--key-ttl N] [--cds] [--zonemd | --digest] [--nsec3 SALT ITERATIONS [--opt-out]] [--old FILE --again N [--wrong FILE]] --key FILE..\n";
 
 fn main(rt: HostRuntime) -> ExitCode {
     let alloc = rt.alloc();
@@ -60,6 +62,7 @@ fn run(rt: &HostRuntime, wanted: &Wanted<'_>) -> u8
     let mut fault = rt.stderr();
     let done = match wanted.mode {
         Mode::Ds => digests::write_digests(rt, wanted, &mut fault),
+        Mode::Signatures => signatures::write_signatures(rt, wanted, &mut fault),
         Mode::Plan | Mode::Sign | Mode::Standing => signing::sign(rt, wanted, &mut fault),
     };
     if done.is_some() { 0 } else { 1 }

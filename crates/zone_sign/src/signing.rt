@@ -30,16 +30,12 @@ pub fn sign<E: Write>(rt: &HostRuntime, wanted: &Wanted<'_>, fault: &mut E) -> O
     let Ok(mut output) = BufWriter::new(alloc, io::writer(rt)) else {
         return refuse(fault, wanted.file, &"out of memory");
     };
-    let written = if wanted.mode == Mode::Standing {
+    let frames = if wanted.mode == Mode::Standing {
         write_standing(alloc, &mut output, &plan.records)
     } else {
         write_plan(alloc, &mut output, &plan.records)
     };
-    match written {
-        Ok(()) => {}
-        Err(Stop::Plan(why)) => return refuse(fault, wanted.file, &why),
-        Err(Stop::Output) => return refuse(fault, wanted.file, &"write failed"),
-    }
+    written(frames, wanted, fault)?;
     if wanted.mode != Mode::Sign {
         return Some(());
     }
@@ -47,6 +43,19 @@ pub fn sign<E: Write>(rt: &HostRuntime, wanted: &Wanted<'_>, fault: &mut E) -> O
     match write_zone(alloc, &mut output, &apex, &records) {
         Ok(()) => Some(()),
         Err(_) => refuse(fault, wanted.file, &"write failed"),
+    }
+}
+
+/// Reports why something wasn't written, and gives None then.
+pub(crate) fn written<E: Write>(
+    done: Result<(), Stop>,
+    wanted: &Wanted<'_>,
+    fault: &mut E,
+) -> Option<()> {
+    match done {
+        Ok(()) => Some(()),
+        Err(Stop::Plan(why)) => refuse(fault, wanted.file, &why),
+        Err(Stop::Output) => refuse(fault, wanted.file, &"write failed"),
     }
 }
 

@@ -15,6 +15,8 @@ pub enum Mode {
     Sign,
     /// Write the signatures of the old zone that stay, with what they are made of.
     Standing,
+    /// Write the signatures of the zone, with what they are made of.
+    Signatures,
     /// Write the DS records of the zone's keys.
     Ds,
 }
@@ -109,6 +111,7 @@ fn mode_of(word: &str) -> Option<Mode> {
         "plan" => Some(Mode::Plan),
         "sign" => Some(Mode::Sign),
         "standing" => Some(Mode::Standing),
+        "signatures" => Some(Mode::Signatures),
         "ds" => Some(Mode::Ds),
         _ => None,
     }
