@@ -1,18 +1,25 @@
-//! The records of a zone, read from its file.
-ghost use Rattle.std.specs.Prelude.{◌≡◌, IfOk, IfSome};
+//! The records of a zone, read from its file and from those that it includes (RFC 1035 section 5.1).
+ghost use Rattle.std.specs.Prelude.{◌≡◌, ℕ, List, Some, IfOk, IfSome};
 ghost use Rattle.std.specs.List.{};
 ghost use Rattle.zone_map.specs.Zones.{IsZone};
 ghost use Rattle.zone_sign.specs.Zones.{given_of, is_made, unsigned};
+ghost use Rattle.zone_texts.specs.Inclusions.{Files, records_of};
+ghost use Rattle.zone_texts.specs.Readings.{IsReadOf};
 
-use crate::reporting::{refuse, refuse_at};
+use crate::reporting::{refuse, refuse_at, refuse_input};
 use crate::wanted::Wanted;
 use file_origins::{first_origin, zone_origin};
+use host_texts::HostTexts;
 use std::alloc::{AllocError, Global};
 use std::fs;
-use std::io::Write;
+use std::io::{Read, Write};
 use zone_builder::{GivenRecord, LoadFault, Loaded, load};
-use zone_file::{FaultText, InputError, PlacedRecord, read_zone};
+use zone_file::PlacedRecord;
 use zone_proto::{LowerName, Name, RData, Record, RecordType, Seq};
+use zone_texts::{FaultLines, FilesError, Reading, Sources, Texts, read_files};
+
+/// How many faults of a file are reported.
+const MOST_TOLD: usize = 20;
 
 /// The zone in the file, without its signatures, denials and keys. None if there is none, which is reported.
 pub fn read_zone_of<E: Write>(
@@ -26,8 +33,12 @@ pub fn read_zone_of<E: Write>(
     let Ok(origin) = first_origin(alloc, &wanted.origin) else {
         return refuse(fault, wanted.file, &"out of memory");
     };
-    let records = read_records(rt, wanted.file, origin, fault)?;
-    load_unsigned(alloc, wanted, records, fault)
+    let Reading {
+        records,
+        sources,
+        ..
+    } = read_records(rt, wanted.file, origin, fault)?;
+    load_unsigned(alloc, wanted, &sources, records, fault)
 }
 
 /// The zone in the file, with its signatures, denials and keys. None if there is none, which is reported.
@@ -42,14 +53,18 @@ pub fn read_whole_zone<E: Write>(
     let Ok(first) = first_origin(alloc, &wanted.origin) else {
         return refuse(fault, wanted.file, &"out of memory");
     };
-    let records = read_records(rt, wanted.file, first, fault)?;
+    let Reading {
+        records,
+        sources,
+        ..
+    } = read_records(rt, wanted.file, first, fault)?;
     let Ok(origin) = zone_origin(alloc, &wanted.origin, records.as_slice()) else {
         return refuse(fault, wanted.file, &"out of memory");
     };
     let Ok(given) = without_wrong(alloc, records, &[]) else {
         return refuse(fault, wanted.file, &"out of memory");
     };
-    load_given(alloc, wanted.file, origin, given, fault)
+    load_given(alloc, &sources, origin, given, fault)
 }
 
 /// The zone of an origin in a file, with its denials and keys, and with its signatures but for the wrong ones, which ascend. None if
@@ -67,46 +82,76 @@ pub fn read_signed_zone<E: Write>(
     let Ok(first) = origin.clone() else {
         return refuse(fault, file, &"out of memory");
     };
-    let records = read_records(rt, file, Name::from(first), fault)?;
+    let Reading {
+        records,
+        sources,
+        ..
+    } = read_records(rt, file, Name::from(first), fault)?;
     let Ok(given) = without_wrong(alloc, records, wrong) else {
         return refuse(fault, file, &"out of memory");
     };
     let Ok(origin) = origin.clone() else {
         return refuse(fault, file, &"out of memory");
     };
-    load_given(alloc, file, Name::from(origin), given, fault)
+    load_given(alloc, &sources, Name::from(origin), given, fault)
 }
 
-/// The records in a file, at whose beginning the origin is this. None if it can't be read, which is reported.
+/// The records in a file and in those that it includes, at whose beginning the origin is this. None if they can't be read, which is
+/// reported.
 fn read_records<E: Write>(
     rt: &HostRuntime,
     file: &str,
     origin: Name,
     fault: &mut E,
-) -> Option<Vec<PlacedRecord>> {
-    let alloc = rt.alloc();
-    let Ok(mut input) = fs::open(rt, file) else {
-        return refuse(fault, file, &"the file can't be read");
-    };
-    match read_zone(alloc, origin, &mut input) {
-        Ok(records) => Some(records),
-        Err(InputError::Memory) => refuse(fault, file, &"out of memory"),
-        Err(InputError::Input(_)) => refuse(fault, file, &"read failed"),
-        Err(InputError::Fault(found)) => {
-            let text = FaultText {
-                file,
-                fault: &found,
-            };
-            let _ = write!(fault, "{text}\n");
-            None
-        }
+) -> Option<Reading> {
+    let mut texts = HostTexts { rt };
+    match fs::open(rt, file) {
+        Ok(mut input) => read_input(rt.alloc(), file, origin, &mut input, &mut texts, fault),
+        Err(e) => refuse_input(fault, file, e.kind()),
     }
+}
+
+/// The same, where the file is read from an input. Where it is known what that has left, as of a slice, that is the file's text.
+fn read_input<R: Read, T: Texts, E: Write>(
+    alloc: Global,
+    file: &str,
+    origin: Name,
+    input: &mut R,
+    texts: &mut T,
+    fault: &mut E,
+) -> Option<Reading>
+    ensures alone { IfSome result (λ reading. (text : List ℕ) → R.remaining input.old ≡ Some text →
+        IsReadOf origin text reading.records.items) }
+    // Where files are known, with that text, so it is with those that it includes.
+    ensures included { IfSome result (λ reading.
+        (text : List ℕ) → R.remaining input.old ≡ Some text →
+        (files : Files) → T.known texts.old ≡ Some files → files.text file.now ≡ text →
+        records_of files origin file.now ≡ Some reading.records.items) }
+{
+    match read_files(alloc, origin, file, input, texts, MOST_TOLD) {
+        Ok(reading) => {
+            if !reading.is_faultless() {
+                report_faults(&reading, fault);
+                return None;
+            }
+            Some(reading)
+        }
+        Err(FilesError::Memory) => refuse(fault, file, &"out of memory"),
+        Err(FilesError::Input(kind)) => refuse_input(fault, file, kind),
+    }
+}
+
+/// Reports the faults of the files that were read, and how many there are besides.
+fn report_faults<E: Write>(reading: &Reading, fault: &mut E) {
+    let lines = FaultLines { reading, hint: "" };
+    let _ = write!(fault, "{lines}");
 }
 
 /// The zone of the records without those that are made anew. None if they make no zone, which is reported.
 fn load_unsigned<E: Write>(
     alloc: Global,
     wanted: &Wanted<'_>,
+    sources: &Sources,
     records: Vec<PlacedRecord>,
     fault: &mut E,
 ) -> Option<Loaded>
@@ -118,13 +163,13 @@ fn load_unsigned<E: Write>(
     let Ok(given) = unsigned(alloc, records) else {
         return refuse(fault, wanted.file, &"out of memory");
     };
-    load_given(alloc, wanted.file, origin, given, fault)
+    load_given(alloc, sources, origin, given, fault)
 }
 
 /// The zone of an origin that records of a file make. None if they make none, which is reported.
 fn load_given<E: Write>(
     alloc: Global,
-    file: &str,
+    sources: &Sources,
     origin: Name,
     given: Vec<GivenRecord>,
     fault: &mut E,
@@ -133,8 +178,8 @@ fn load_given<E: Write>(
 {
     match load(alloc, origin, given) {
         Ok(loaded) => Some(loaded),
-        Err(LoadFault::Memory) => refuse(fault, file, &"out of memory"),
-        Err(found) => refuse_at(fault, file, found.place(), &found),
+        Err(LoadFault::Memory) => refuse(fault, sources.name(0), &"out of memory"),
+        Err(found) => refuse_at(fault, sources, found.place(), &found),
     }
 }
 
