@@ -1,0 +1,31 @@
+//! Keeps journals of zones, and replays them whole, cut off and changed, from the first version or a later one, as rows of text describe; reports
+//! which rows have another answer. Each line of standard input names a file of rows in the current directory, `data`.
+//!
+//! A row is `CALL => ANSWER`; a line without `=>` is a comment, and spaces within answers are passed over. Records are words as they are
+//! printed, without their class. The calls:
+//!
+//! - `origin NAME` begins a zone without records, of this name; `add RECORD` inserts a record into it: whether it was taken; `drop NAME TYPE` removes
+//!   a set: whether it was there;
+//! - `journal` begins the journal of the zone, as it is, and `version` puts the step to the zone as it is now behind it: `put`, or the fault;
+//! - `replay` replays the journal over the version that it was begun over: `same` if answers show the zone as it is so, else `other`; and then,
+//!   each after a semicolon, the records of that version that went (`-`) and came (`+`); or the fault;
+//! - `replay-here` replays it over the zone as it is now;
+//! - `cuts PLACE` replays what the journal has behind the version at a place, from 0 on, over that version, cut off behind each of its octets in
+//!   turn, and `changed-octets` the journal with each octet changed in turn: the versions that this leads to, by their places, each told where it
+//!   isn't the one before, or `none` where no version is as that;
+//! - `frame HEX` puts octets in a frame behind the journal: `put`;
+//! - `scarce-replay` replays it with no memory left, and then with a little more each time: whether memory was refused, and the answer then.
+#![tactic(auto)]
+
+mod calls;
+mod changes;
+mod journal;
+mod replays;
+
+use calls::Case;
+use compared_rows::report_files;
+use std::io;
+
+fn main(rt: HostRuntime) -> io::Result<()> {
+    report_files::<Case>(&rt)
+}
