@@ -20,22 +20,18 @@
 //! as one word of hex, and those of TYPE65280 as a count of octets 0.
 #![tactic(auto)]
 
+mod calls;
 mod limits;
 mod meant;
 mod reading;
-mod rows;
 mod sets;
 mod text;
 mod writing;
 
-use std::{fs, io};
+use calls::MessageCaller;
+use compared_rows::report_files;
+use std::io;
 
 fn main(rt: HostRuntime) -> io::Result<()> {
-    for file in rt.lines(rt.alloc()) {
-        let file = file?;
-        let text = fs::read_to_string(&rt, file.as_str())?;
-        let report = rows::report(rt.alloc(), text.as_str())?;
-        println!(rt; "{file}: {report}")?;
-    }
-    Ok(())
+    report_files::<MessageCaller>(&rt)
 }

@@ -1,6 +1,7 @@
 //! Responses that rows mean.
 
-use crate::sets::{Set, groups_of, octets_of, read_set};
+use crate::sets::{Set, groups_of, read_set};
+use compared_rows::octets_of;
 use line_text::{TextError, Words};
 use message_reading::{Query, ReadError, read_query};
 use message_writing::{Group, Response};

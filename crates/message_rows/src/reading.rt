@@ -1,108 +1,72 @@
 //! Messages that are read.
 
-use crate::rows::{ATTEMPTS, STEP, without_spaces};
 use crate::text::{message_text, query_text};
-use alloc_failures::Scarcity;
-use line_text::{DataText, read_hex};
+use alloc_failures::scarce_answer;
+use compared_rows::octets_of;
+use line_text::{DataText, TextError};
 use message_reading::{MessageError, ReadError, plain_data_of, read_message, read_query};
-use std::alloc::{AllocError, Global};
-use zone_proto::{ProtoError, RecordType};
+use std::alloc::Global;
+use zone_proto::RecordType;
+
+/// The word for octets that are read.
+const READ: &str = "read";
 
 /// The answer to a call that reads octets.
-pub fn read_answer(alloc: Global, verb: &str, words: &str) -> Result<String, AllocError> {
+pub fn read_answer(alloc: Global, verb: &str, words: &str) -> Result<String, TextError> {
     match verb {
+        "query" => Ok(query_text(alloc, octets_of(alloc, words)?.as_slice())?),
+        "message" => Ok(message_text(alloc, octets_of(alloc, words)?.as_slice())?),
         "data" => data_answer(alloc, words),
         "fronts" => fronts_answer(alloc, words),
         "refusals" => refusals_answer(alloc, words),
-        _ => reading_answer(alloc, verb, words),
+        _ => Err(TextError::BadText),
     }
-}
-
-/// What octets are that hex writes.
-fn reading_answer(alloc: Global, kind: &str, hex: &str) -> Result<String, AllocError> {
-    match octets_of(alloc, hex)? {
-        Some(octets) if kind == "query" => query_text(alloc, octets.as_slice()),
-        Some(octets) => message_text(alloc, octets.as_slice()),
-        None => format!(in alloc; "no hex"),
-    }
-}
-
-/// The octets that hex writes, in which spaces are passed over.
-fn octets_of(alloc: Global, hex: &str) -> Result<Option<Vec<u8>>, AllocError> {
-    let digits = without_spaces(alloc, hex)?;
-    read_hex(alloc, digits.as_slice())
 }
 
 /// The data of a type that hex writes behind it.
-fn data_answer(alloc: Global, words: &str) -> Result<String, AllocError> {
-    let Some((word, hex)) = words.split_once(" ") else {
-        return format!(in alloc; "a row that can't be read");
-    };
-    let Some(record_type) = RecordType::from_text(word) else {
-        return format!(in alloc; "no type");
-    };
-    let Some(octets) = octets_of(alloc, hex)? else {
-        return format!(in alloc; "no hex");
-    };
-    match plain_data_of(alloc, record_type, octets.as_slice()) {
-        Ok(Some(rdata)) => format!(in alloc; "{}", DataText(&rdata)),
-        Ok(None) => format!(in alloc; "malformed"),
-        Err(_) => Err(AllocError),
+fn data_answer(alloc: Global, words: &str) -> Result<String, TextError> {
+    let (word, hex) = words.split_once(" ").ok_or(TextError::BadText)?;
+    let record_type = RecordType::from_text(word).ok_or(TextError::BadText)?;
+    let octets = octets_of(alloc, hex)?;
+    match plain_data_of(alloc, record_type, octets.as_slice())? {
+        Some(rdata) => Ok(format!(in alloc; "{}", DataText(&rdata))?),
+        None => Ok(format!(in alloc; "malformed")?),
     }
 }
 
-/// Whether octets are read as a query or as a message; none if memory is refused.
-fn is_read(alloc: Global, kind: &str, octets: &[u8]) -> Option<bool> {
+/// The word for whether octets are read as a query or as a message; none if memory is refused.
+fn word_of(alloc: Global, kind: &str, octets: &[u8]) -> Option<&'static str> {
     if kind == "query" {
         match read_query(alloc, octets) {
-            Ok(_) => Some(true),
+            Ok(_) => Some(READ),
             Err(ReadError::Memory) => None,
-            Err(_) => Some(false),
+            Err(_) => Some("malformed"),
         }
     } else {
         match read_message(alloc, octets) {
-            Ok(_) => Some(true),
+            Ok(_) => Some(READ),
             Err(MessageError::Memory) => None,
-            Err(MessageError::Malformed) => Some(false),
+            Err(MessageError::Malformed) => Some("malformed"),
         }
     }
 }
 
 /// How many proper fronts of the octets are read that hex writes behind their kind.
-fn fronts_answer(alloc: Global, words: &str) -> Result<String, AllocError> {
-    let Some((kind, hex)) = words.split_once(" ") else {
-        return format!(in alloc; "a row that can't be read");
-    };
-    let Some(octets) = octets_of(alloc, hex)? else {
-        return format!(in alloc; "no hex");
-    };
-    let octets = octets.as_slice();
+fn fronts_answer(alloc: Global, words: &str) -> Result<String, TextError> {
+    let (kind, hex) = words.split_once(" ").ok_or(TextError::BadText)?;
+    let octets = octets_of(alloc, hex)?;
     let mut read = 0usize;
     for count in 0..octets.len() {
-        if is_read(alloc, kind, &octets[..count]) == Some(true) {
+        if word_of(alloc, kind, &octets[..count]) == Some(READ) {
             read = read.saturating_add(1);
         }
     }
-    format!(in alloc; "{read} of {} read", octets.len())
+    Ok(format!(in alloc; "{read} of {} read", octets.len())?)
 }
 
 /// Whether reading the octets that hex writes behind their kind was refused memory, and whether they were read then.
-fn refusals_answer(alloc: Global, words: &str) -> Result<String, AllocError> {
-    let Some((kind, hex)) = words.split_once(" ") else {
-        return format!(in alloc; "a row that can't be read");
-    };
-    let Some(octets) = octets_of(alloc, hex)? else {
-        return format!(in alloc; "no hex");
-    };
-    let octets = octets.as_slice();
-    let mut scarce = Scarcity::new(alloc)?;
-    scarce.begin(ATTEMPTS)?;
-    let given = scarce.until_given(STEP, || is_read(alloc, kind, octets));
-    scarce.end();
-    match given {
-        None => format!(in alloc; "refused"),
-        Some((0, _)) => format!(in alloc; "never refused"),
-        Some((_, true)) => format!(in alloc; "refused, then read"),
-        Some((_, false)) => format!(in alloc; "refused, then malformed"),
-    }
+fn refusals_answer(alloc: Global, words: &str) -> Result<String, TextError> {
+    let (kind, hex) = words.split_once(" ").ok_or(TextError::BadText)?;
+    let octets = octets_of(alloc, hex)?;
+    Ok(scarce_answer(alloc, || word_of(alloc, kind, octets.as_slice()))?)
 }

@@ -1,7 +1,7 @@
 //! Sets of records that rows mean.
 
-use crate::rows::without_spaces;
-use line_text::{TextError, Words, read_data, read_hex, read_name, read_type};
+use compared_rows::read_octets;
+use line_text::{TextError, Words, read_data, read_name, read_type};
 use message_reading::plain_data_of;
 use message_writing::Group;
 use std::alloc::{AllocError, Global};
@@ -70,8 +70,8 @@ fn read_parts(
         | RecordType::NSEC3PARAM
         | RecordType::DNSKEY
         | RecordType::RRSIG => {
-            let word = words.take_needed()?;
-            read_octets(alloc, record_type, word)
+            let octets = read_octets(alloc, words)?;
+            data_of(alloc, record_type, octets.as_slice())
         }
         RecordType(ZEROS) => {
             let count = words.take_u16()?;
@@ -79,14 +79,6 @@ fn read_parts(
         }
         _ => read_data(alloc, record_type, words),
     }
-}
-
-/// Reads the octets of data that a word of hex writes.
-fn read_octets(alloc: Global, record_type: RecordType, word: &[u8]) -> Result<RData, TextError> {
-    let Some(octets) = read_hex(alloc, word)? else {
-        return Err(TextError::BadText);
-    };
-    data_of(alloc, record_type, octets.as_slice())
 }
 
 /// Data of so many octets 0.
@@ -100,19 +92,7 @@ fn zeros(alloc: Global, count: u16) -> Result<RData, TextError> {
 
 /// The data that octets are.
 fn data_of(alloc: Global, record_type: RecordType, octets: &[u8]) -> Result<RData, TextError> {
-    match plain_data_of(alloc, record_type, octets)? {
-        Some(rdata) => Ok(rdata),
-        None => Err(TextError::BadText),
-    }
-}
-
-/// The octets that hex writes, in which spaces are passed over.
-pub fn octets_of(alloc: Global, hex: &str) -> Result<Vec<u8>, TextError> {
-    let digits = without_spaces(alloc, hex)?;
-    match read_hex(alloc, digits.as_slice())? {
-        Some(octets) => Ok(octets),
-        None => Err(TextError::BadText),
-    }
+    plain_data_of(alloc, record_type, octets)?.ok_or(TextError::BadText)
 }
 
 /// Sets as groups of a response.

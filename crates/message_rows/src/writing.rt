@@ -2,19 +2,15 @@
 
 use crate::limits::limits_answer;
 use crate::meant::{Meant, read_meant, response_of, sections_of};
-use crate::rows::{ATTEMPTS, STEP};
-use alloc_failures::Scarcity;
+use alloc_failures::scarce_answer;
 use line_text::{HexText, TextError};
 use message_writing::{Response, WriteError, write_response};
 use std::alloc::{AllocError, Global};
 
 /// The answer to a call that writes a response.
-pub fn written_answer(alloc: Global, verb: &str, words: &str) -> Result<String, AllocError> {
-    match read_meant(alloc, words) {
-        Ok(meant) => answer_of(alloc, verb, &meant),
-        Err(TextError::BadText) => format!(in alloc; "a row that can't be read"),
-        Err(TextError::Memory) => Err(AllocError),
-    }
+pub fn written_answer(alloc: Global, verb: &str, words: &str) -> Result<String, TextError> {
+    let meant = read_meant(alloc, words)?;
+    Ok(answer_of(alloc, verb, &meant)?)
 }
 
 /// What becomes of a response.
@@ -24,7 +20,7 @@ fn answer_of(alloc: Global, verb: &str, meant: &Meant) -> Result<String, AllocEr
     match verb {
         "write" | "length" => write_answer(alloc, verb, &response, meant.limit),
         "limits" => limits_answer(alloc, &response, meant.limit),
-        _ => scarce_answer(alloc, &response, meant.limit),
+        _ => scarce_answer(alloc, || word_of(alloc, &response, meant.limit)),
     }
 }
 
@@ -46,30 +42,12 @@ fn write_answer(
     }
 }
 
-/// Whether writing a response was refused memory, and whether it was written then.
-fn scarce_answer(
-    alloc: Global,
-    response: &Response<'_, '_>,
-    limit: u16,
-) -> Result<String, AllocError> {
-    let mut scarce = Scarcity::new(alloc)?;
-    scarce.begin(ATTEMPTS)?;
-    let given = scarce.until_given(STEP, || is_written(alloc, response, limit));
-    scarce.end();
-    match given {
-        None => format!(in alloc; "refused"),
-        Some((0, _)) => format!(in alloc; "never refused"),
-        Some((_, true)) => format!(in alloc; "refused, then written"),
-        Some((_, false)) => format!(in alloc; "refused, then not written"),
-    }
-}
-
-/// Whether a response is written; none if memory is refused, and no octets are left.
-fn is_written(alloc: Global, response: &Response<'_, '_>, limit: u16) -> Option<bool> {
+/// The word for whether a response is written; none if memory is refused, and no octets are left.
+fn word_of(alloc: Global, response: &Response<'_, '_>, limit: u16) -> Option<&'static str> {
     let mut out = Vec::new(alloc);
     match write_response(alloc, &mut out, response, limit) {
-        Ok(()) => Some(true),
+        Ok(()) => Some("written"),
         Err(WriteError::Memory) if out.is_empty() => None,
-        Err(_) => Some(false),
+        Err(_) => Some("not written"),
     }
 }
