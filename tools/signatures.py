@@ -49,12 +49,17 @@ class Signature:
         return f"{self.owner} {TYPES.get(self.covered, f'TYPE{self.covered}')}: the signature by key {self.tag} of algorithm {self.algorithm}"
 
 
+def is_zone_key(data):
+    """Whether a key may verify signatures of a zone: its flag says so, and its protocol is 3 (RFC 4034 sections 2.1.1 and 2.1.2)."""
+    return data[0] & 1 == 1 and data[2] == 3
+
+
 def keys_of(signatures):
-    """The keys of the zone, by algorithm and tag: those of the DNSKEY set of the signer."""
-    found = {data for it in signatures if it.covered == DNSKEY and it.owner == it.signer for data in it.data()}
+    """The zone keys by signer, algorithm and tag: those of the DNSKEY set of the signer."""
+    found = {(it.signer, data) for it in signatures if it.covered == DNSKEY and it.owner == it.signer for data in it.data() if is_zone_key(data)}
     keys = {}
-    for data in sorted(found):
-        keys.setdefault((data[3], tag_of(data)), []).append(verifier_of(data))
+    for signer, data in sorted(found):
+        keys.setdefault((signer, data[3], tag_of(data)), []).append(verifier_of(data))
     return keys
 
 
@@ -62,9 +67,9 @@ def fault_of(signature, keys):
     """What is wrong with a signature; none if it is valid."""
     if signature.algorithm not in ALGORITHMS:
         return f"{signature.text()} can't be verified: the algorithm isn't known here"
-    able = keys.get((signature.algorithm, signature.tag))
+    able = keys.get((signature.signer, signature.algorithm, signature.tag))
     if not able:
-        return f"{signature.text()}: there is no such key in a DNSKEY set that is signed"
+        return f"{signature.text()}: {signature.signer} has no such zone key in a DNSKEY set that is signed"
     if not any(verify(signature.octets, signature.signature) for verify in able):
         return f"{signature.text()} isn't valid"
     return None

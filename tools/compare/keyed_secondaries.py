@@ -172,12 +172,7 @@ def wrong_of_primary(server, program, folder, versions):
             begun.enter_context(running(secondary(program, origin, port, path, keys, "--notify", str(notified[origin]))))
         for number, files in enumerate(versions, 1):
             if number > 1:
-                for origin, path in served.items():
-                    put(path, files[origin])
-                process.send_signal(signal.SIGHUP)
-                for origin in served:
-                    come(lambda: soa_serial(port, origin), lambda it: it == number)
-                    secondaries.notify(notified[origin], origin)
+                renew(process, port, number, served, files, notified)
                 differences = sum(sends_differences(port, origin) for origin in served)
             for origin, path in copies.items():
                 come(lambda: has_serial(path, number), seconds=COMES)
@@ -196,6 +191,16 @@ def kept_from(program, room, port, origin):
             begun.enter_context(running(secondary(program, origin, port, f"{room}/kept{number}", keys, front=front)))
         time.sleep(REFUSES)
     return [how for number, how in enumerate(ways) if os.path.exists(f"{room}/kept{number}")]
+
+
+def renew(process, port, number, paths, files, notified):
+    """Has a primary at a port take the zones of this number, and tells those who are notified of each once it has it."""
+    for origin, path in paths.items():
+        put(path, files[origin])
+    process.send_signal(signal.SIGHUP)
+    for origin in paths:
+        come(lambda: soa_serial(port, origin), lambda it: it == number)
+        secondaries.notify(notified[origin], origin)
 
 
 def soa_serial(port, origin):
@@ -229,12 +234,7 @@ def wrong_of_secondary(server, daemon, folder, versions):
             peers.connected(others[how]).close()
         for number, each in enumerate(versions, 1):
             if number > 1:
-                for origin, path in files.items():
-                    put(path, each[origin])
-                process.send_signal(signal.SIGHUP)
-                for origin in files:
-                    come(lambda: soa_serial(served, origin), lambda it: it == number)
-                    secondaries.notify(port, origin)
+                renew(process, served, number, files, each, dict.fromkeys(files, port))
             copies = {origin: come(lambda: secondaries.transferred(port, origin), lambda it: secondaries.serial(it) == number) for origin in files}
             wrong += [f"{origin} {number}" for origin in files if not read[number - 1][origin] or copies[origin] != read[number - 1][origin]]
         for how in refused:

@@ -75,7 +75,9 @@ pub struct FileFault {
 /// A fault as a line of text: the name of the file, line and column, what is wrong there, and by which entries the file is included.
 #[derive(Drop)]
 pub struct FaultLine<'s> {
+    /// The files that were read.
     pub sources: &'s Sources,
+    /// What is wrong, and where.
     pub fault: &'s FileFault,
 }
 
@@ -98,6 +100,7 @@ impl fmt::Display for FaultLine<'_> {
 /// The faults of the files that were read, each with its line end, and how many there are besides those that were kept.
 #[derive(Drop)]
 pub struct FaultLines<'r> {
+    /// What was read, and its faults.
     pub reading: &'r Reading,
     /// What stands behind how many there are besides, as `, which --all tells`.
     pub hint: &'r str,

@@ -141,9 +141,11 @@ impl fmt::Display for Chain<'_> {
 /// entries the file is included. Where the place isn't known, the name of the first file stands before it alone.
 #[derive(Drop)]
 pub struct ToldLine<'s, T: fmt::Display> {
+    /// The files that were read.
     pub sources: &'s Sources,
-    /// Its line is numbered through all files.
+    /// Where it is. Its line is numbered through all files.
     pub place: Option<Place>,
+    /// What is told.
     pub told: &'s T,
 }
 
