@@ -4,7 +4,7 @@ ghost use Rattle.std.specs.Prelude.{◌≡◌};
 use std::fmt::Display;
 use std::io::Write;
 use zone_scanner::Place;
-use zone_texts::{Chain, FaultLine, Reading, Sources};
+use zone_texts::{FaultLines, Reading, Sources, ToldLine};
 
 /// Tells why the file can't be checked, and gives the status for it.
 pub fn tell<E: Write>(fault: &mut E, why: &[u8]) -> u8
@@ -21,39 +21,21 @@ pub fn tell_at<E: Write, T: Display>(
     place: Option<Place>,
     told: &T,
 ) {
-    let _ = match place {
-        Some(place) => {
-            let at = sources.locate(place);
-            let (file, place) = (sources.name(at.file), at.place);
-            let chain = Chain {
-                sources,
-                file: at.file,
-            };
-            write!(
-                fault,
-                "{file}:{}:{}: {told}{chain}\n",
-                place.line, place.column
-            )
-        }
-        None => write!(fault, "{}: {told}\n", sources.name(0)),
+    let line = ToldLine {
+        sources,
+        place,
+        told,
     };
+    let _ = write!(fault, "{line}\n");
 }
 
 /// Tells the faults of the files that were read, and how many there are besides.
 pub fn tell_faults<E: Write>(fault: &mut E, reading: &Reading) {
-    for found in reading.faults.iter() {
-        let line = FaultLine {
-            sources: &reading.sources,
-            fault: found,
-        };
-        let _ = write!(fault, "{line}\n");
-    }
-    tell_more(
-        fault,
-        reading.sources.name(0),
-        reading.more_faults,
-        "faults",
-    );
+    let lines = FaultLines {
+        reading,
+        hint: ", which --all tells",
+    };
+    let _ = write!(fault, "{lines}");
 }
 
 /// Tells how many things of a kind aren't told, if there are any.
