@@ -1,18 +1,15 @@
 //! A key of a file.
-ghost use Rattle.std.specs.Prelude.{◌≡◌, ◌≢◌, IfErr, IfOk, OnOk, option_map};
-ghost use Rattle.base64.specs.Engines.{standard};
-ghost use Rattle.base64.specs.GeneralPurpose.{decoded_of};
+ghost use Rattle.std.specs.Prelude.{◌≡◌, ◌≢◌, IfErr, IfOk, OnOk};
 ghost use Rattle.line_text.specs.Reading.{name_of_word};
 ghost use Rattle.key_files.specs.Entries.{algorithm_of, entry_by, entry_of, FailsBy, fields_of, is_algorithm_word, is_name_word, is_secret_word};
 
 use crate::fault::{KeyFileReason, WordError};
 use crate::words::{says, word_at};
-use base64::DecodeAllocError;
-use base64::engine::general_purpose::STANDARD;
 use message_hmac::{Algorithm, Secret};
 use std::alloc::{AllocError, Global};
 use std::str;
 use zone_proto::{LowerName, Name, ProtoError};
+use zone_tokens::read_base64;
 
 /// A key of a file, which says nothing of the zones that those may have who share it. It has no `Debug`, so that its secret is in no message.
 #[derive(Drop)]
@@ -90,7 +87,7 @@ fn entry_by(
     let Some(read_algorithm) = read_algorithm(word_at(text, algorithm)) else {
         return Err(WordError::Wrong(algorithm, KeyFileReason::UnknownAlgorithm));
     };
-    let Some(octets) = read_secret(alloc, word_at(text, secret))? else {
+    let Some(octets) = read_base64(alloc, word_at(text, secret))? else {
         return Err(WordError::Wrong(secret, KeyFileReason::BadSecret));
     };
     Ok(KeyEntry {
@@ -141,19 +138,6 @@ fn read_algorithm(word: &[u8]) -> Option<Algorithm>
         Some(Algorithm::Sha512)
     } else {
         None
-    }
-}
-
-/// The octets that a word of base64 writes; none if it is none.
-#[tactic(auto, unfolding(base64::specs::GeneralPurpose::decoded_of))]
-fn read_secret(alloc: Global, word: &[u8]) -> Result<Option<Vec<u8>>, AllocError>
-    ensures { IfOk result
-        (λ octets. option_map (λ o. o.items) octets ≡ decoded_of standard word.now) }
-{
-    match STANDARD.decode(alloc, word) {
-        Ok(octets) => Ok(Some(octets)),
-        Err(DecodeAllocError::OutOfMemory) => Err(AllocError),
-        Err(DecodeAllocError::DecodeError(_)) => Ok(None),
     }
 }
 
