@@ -1,2 +1,4 @@
 pub mod Counted
+pub mod OneByOne
 pub mod Pushed
+pub mod Faults

@@ -1,1 +1,3 @@
 pub mod Series
+pub mod Faults
+pub mod Singles

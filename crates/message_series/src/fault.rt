@@ -7,7 +7,7 @@ use zone_proto::ProtoError;
 /// Why a series of messages isn't written.
 #[derive(Clone, Copy, PartialEq, Eq, Debug)]
 pub enum SeriesFault {
-    /// A record has data that no octets are, no message has room for a group, or there are more than 65,535 messages.
+    /// A record has data that no octets are, no message has room for a record, or the records take more than 65,534 messages.
     Unwritable,
     /// A growth that the allocator refused.
     Memory,

@@ -7,6 +7,7 @@
 
 mod fault;
 mod reading;
+mod singles;
 mod writing;
 
 pub use fault::SeriesFault;

@@ -1,10 +1,13 @@
 //! Series of messages written.
-ghost use Rattle.std.specs.Prelude.{◌≡◌, ◌+◌, ◌<◌, ◌≤◌, ◌++◌, drop, length, Some, IfOk, OnOk};
+ghost use Rattle.std.specs.Prelude.{◌≡◌, ◌+◌, ◌<◌, ◌≤◌, ◌^◌, ◌++◌, drop, length, Some, IfErr, IfOk, OnOk};
 ghost use Rattle.message_writing.specs.DataText.{short_text};
 ghost use Rattle.message_writing.specs.Responses.{all_records};
+ghost use Rattle.message_series.specs.Faults.{query_about, IsSeriesFault};
 ghost use Rattle.message_series.specs.Series.{records_of, HasFirst, IsPushed};
+ghost use Rattle.message_series.specs.Singles.{AreSingle, IsPushFault};
 
 use crate::fault::SeriesFault;
+use crate::singles::singles_of;
 use message_reading::{Header, Query, Question};
 use message_writing::{Group, Response, WriteError, write_front};
 use std::alloc::{AllocError, Global};
@@ -16,22 +19,42 @@ const IXFR: RecordType = RecordType(251);
 /// How many octets a message may have.
 const LIMIT: u16 = 65535;
 
+/// How many messages a series may have: of so many there are fewer than 2^32 octets.
+const GREATEST: u16 = 65534;
+
 /// The octets of messages with the records of these groups as answers, in their order, as a response to the question for what changed of the zone
-/// of this origin: the number of the messages in two octets, and then each behind its length in two octets. A group is in one message.
+/// of this origin: the number of the messages in two octets, and then each behind its length in two octets, fewer than 2^32 octets in all. A
+/// message may end behind any record.
 ///
 /// # Errors
 ///
-/// `Unwritable` where a record has data that no octets are, where no message has room for a group, and where there are more than 65,535
-/// messages; `Memory` where none is found.
-#[tactic(auto, using(crate::proofs::Pushed::none_written))]
+/// `Unwritable` where a record has data that no octets are, where no message has room for a record, or where the records take more than
+/// 65,534 messages, so that there are more than 65,534 of them; `Memory` where none is found.
 pub fn write_series(
     alloc: Global,
     origin: &Name,
     groups: &[Group<'_>],
 ) -> Result<Vec<u8>, SeriesFault>
-    ensures { IfOk result (λ octets. records_of octets.items ≡ Some (all_records groups.now)) }
+    ensures reads { IfOk result
+        (λ octets. records_of octets.items ≡ Some (all_records groups.now)) }
+    ensures size { IfOk result (λ octets. length octets.items < 2 ^ 32) }
+    ensures fault { IfErr result
+        (IsSeriesFault (query_about origin.now) (all_records groups.now)) }
 {
     let query = question_about(origin)?;
+    let singles = singles_of(alloc, groups)?;
+    write_singles(alloc, &query, singles.as_slice())
+}
+
+/// The series of records each by itself.
+#[tactic(auto, using(crate::proofs::Pushed::none_written))]
+fn write_singles(alloc: Global, query: &Query, groups: &[Group<'_>]) -> Result<Vec<u8>, SeriesFault>
+    requires { AreSingle groups.now }
+    ensures reads { IfOk result
+        (λ octets. records_of octets.items ≡ Some (all_records groups.now)) }
+    ensures size { IfOk result (λ octets. length octets.items < 2 ^ 32) }
+    ensures fault { IfErr result (IsSeriesFault query.now (all_records groups.now)) }
+{
     let mut body = Vec::new(alloc);
     let mut count = 0u16;
     let mut rest = groups;
@@ -40,12 +63,16 @@ pub fn write_series(
             let octets = behind_count(alloc, count, body.as_slice())?;
             return Ok(octets);
         }
-        if count == u16::MAX {
+        if count == GREATEST {
             return Err(SeriesFault::Unwritable);
         }
-        let taken = push_message(alloc, &query, rest, &mut body)?;
-        rest = without_first(rest, taken);
-        count += 1;
+        match push_message(alloc, query, rest, &mut body) {
+            Ok(taken) => {
+                rest = without_first(rest, taken);
+                count += 1;
+            }
+            Err(fault) => return Err(fault),
+        }
     }
 }
 
@@ -70,22 +97,28 @@ fn behind_count(alloc: Global, count: u16, body: &[u8]) -> Result<Vec<u8>, Alloc
 }
 
 /// Appends a message of as many of the first groups as it has room for, one at least, behind its length; and gives how many.
-#[tactic(auto, using(crate::proofs::Pushed::pushed))]
+#[tactic(auto, using(crate::proofs::Pushed::pushed, crate::proofs::Faults::first_is_too_long))]
 fn push_message(
     alloc: Global,
     query: &Query,
     groups: &[Group<'_>],
     body: &mut Vec<u8>,
 ) -> Result<usize, SeriesFault>
-    ensures { IfOk result (IsPushed body.old.items body.new.items groups.now) }
+    requires { 0 < length groups.now }
+    ensures put { IfOk result (IsPushed body.old.items body.new.items groups.now) }
+    ensures fault { IfErr result (IsPushFault query.now groups.now) }
 {
     let mut message = Vec::new(alloc);
-    let taken = write_first(alloc, query, groups, &mut message)?;
-    if taken == 0 {
-        return Err(SeriesFault::Unwritable);
+    match write_first(alloc, query, groups, &mut message) {
+        Ok(taken) => {
+            if taken == 0 {
+                return Err(SeriesFault::Unwritable);
+            }
+            push_text(body, message.as_slice())?;
+            Ok(taken)
+        }
+        Err(fault) => Err(fault),
     }
-    push_text(body, message.as_slice())?;
-    Ok(taken)
 }
 
 /// Appends octets behind their length in two octets.
@@ -106,7 +139,8 @@ fn write_first(
     groups: &[Group<'_>],
     out: &mut Vec<u8>,
 ) -> Result<usize, SeriesFault>
-    ensures { IfOk result (HasFirst out.new.items groups.now) }
+    ensures first { IfOk result (HasFirst query.now out.new.items groups.now) }
+    ensures fault { IfErr result (IsPushFault query.now groups.now) }
 {
     let response = Response {
         query,
@@ -121,12 +155,17 @@ fn write_first(
     match write_front(alloc, out, &response, LIMIT) {
         Ok(taken) => Ok(taken),
         Err(WriteError::Memory) => Err(SeriesFault::Memory),
-        Err(_) => Err(SeriesFault::Unwritable),
+        Err(WriteError::Unwritable) => Err(SeriesFault::Unwritable),
+        // Its code has twelve bits, and header and question find room.
+        Err(WriteError::BadCode) => unreachable!(),
+        Err(WriteError::NoRoom) => unreachable!(),
     }
 }
 
 /// The question for what changed of a zone (RFC 1995 section 3), in the query that the messages would answer.
-fn question_about(origin: &Name) -> Result<Query, ProtoError> {
+fn question_about(origin: &Name) -> Result<Query, ProtoError>
+    ensures { IfOk result (λ query. query ≡ query_about origin.now) }
+{
     Ok(Query {
         header: Header {
             id: 0,

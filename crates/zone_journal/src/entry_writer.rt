@@ -1,5 +1,5 @@
 //! Entries written.
-ghost use Rattle.std.specs.Prelude.{◌≡◌, IfErr, IfOk, Some};
+ghost use Rattle.std.specs.Prelude.{◌≡◌, ◌^◌, ◌<◌, length, IfErr, IfOk, Some};
 ghost use Rattle.shown_zones.specs.Steps.{shown_step, step_of};
 ghost use Rattle.zone_journal.specs.Entries.{entry_of};
 ghost use Rattle.zone_journal.specs.Writing.{IsEntryFault};
@@ -12,18 +12,19 @@ use shown_zones::ZoneStep;
 use std::alloc::Global;
 use zone_proto::Name;
 
-/// The entry of a step of the zone of this origin: octets that read back as what answers show of the step.
+/// The entry of a step of the zone of this origin: fewer than 2^32 octets, which read back as what answers show of the step.
 ///
 /// # Errors
 ///
 /// `Unreadable` where the step isn't between two SOAs; where one of its other sets has no records, is of type SOA or RRSIG, or has the owner
 /// and type of the one before it. By the law [`steps_are_writable`](crate::laws::steps_are_writable) no step between versions is such a one.
-/// `Unwritable` where a record has data that no octets are, or no message has room for it; or where there are more than 65,535 messages.
-/// `Memory` where none is found.
+/// `Unwritable` where it is another one, but one of its records has data that no octets are, or is too long for a message; or where the
+/// records take more than 65,534 messages, so that there are more than 65,534 of them. `Memory` where none is found.
 pub fn write_entry(alloc: Global, origin: &Name, step: &ZoneStep) -> Result<Vec<u8>, EntryFault>
     ensures reads { IfOk result
         (λ octets. entry_of octets.items ≡ Some (shown_step (step_of step.now))) }
-    ensures fault { IfErr result (IsEntryFault (step_of step.now)) }
+    ensures size { IfOk result (λ octets. length octets.items < 2 ^ 32) }
+    ensures fault { IfErr result (IsEntryFault origin.now (step_of step.now)) }
 {
     if !is_writable(step) {
         return Err(EntryFault::Unreadable);

@@ -9,7 +9,7 @@ pub enum EntryFault {
     /// Its sets couldn't be read back. It isn't between two SOAs; or one of its other sets has no records, is of type SOA or RRSIG, or has the
     /// owner and type of the one before it.
     Unreadable,
-    /// A record has data that no octets are, or no message has room for it; or there are too many records.
+    /// A record has data that no octets are, or no message has room for it; or the records take more than 65,534 messages.
     Unwritable,
     /// A growth that the allocator refused.
     Memory,

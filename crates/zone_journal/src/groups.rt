@@ -1,4 +1,4 @@
-//! The records of a step, each by itself, so that a message may end behind any of them.
+//! The records of a step.
 ghost use Rattle.std.specs.Prelude.{◌≡◌, ◌++◌, IfOk, OnOk};
 ghost use Rattle.message_writing.specs.Responses.{all_records};
 ghost use Rattle.std.specs.List.{All, AllByRecursion, flat_map};
@@ -6,12 +6,12 @@ ghost use Rattle.shown_zones.specs.Steps.{step_of};
 ghost use Rattle.shown_zones.specs.Sending.{sent, sent_sets, sent_step};
 ghost use Rattle.zone_journal.specs.Writing.{IsSound};
 
-use message_writing::{Group, push_records};
+use message_writing::Group;
 use shown_zones::ZoneStep;
 use std::alloc::{AllocError, Global};
 use zone_proto::RecordSet;
 
-/// The records of a step, each by itself.
+/// The records of a step, a group for each set.
 pub(crate) fn groups_of(alloc: Global, step: &ZoneStep) -> Result<Vec<Group<'_>>, AllocError>
     ensures records { IfOk result
         (λ groups. all_records groups.items ≡ sent_step (step_of step.now)) }
@@ -43,6 +43,10 @@ fn push_set<'s>(groups: &mut Vec<Group<'s>>, set: &'s RecordSet) -> Result<(), A
         (all_records groups.new.items ≡ all_records groups.old.items ++ sent set.now) }
     ensures sound { OnOk result (IsSound set.now) }
 {
-    push_records(groups, set.as_slice(), set.ttl())?;
-    push_records(groups, set.rrsigs(), set.ttl())
+    groups.push(Group {
+        records: set.as_slice(),
+        signatures: set.rrsigs(),
+        ttl: set.ttl(),
+    })?;
+    Ok(())
 }

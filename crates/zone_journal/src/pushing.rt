@@ -11,15 +11,12 @@ use shown_zones::ZoneStep;
 use std::alloc::Global;
 use zone_proto::Name;
 
-/// The longest entry of which a frame can tell the length.
-const LONGEST: usize = 0xFFFF_FFFF;
-
 /// Puts the entry of a step of the zone of this origin behind a journal, in a frame. What is new of the journal has to be in its file, and
 /// synced, before the zone after the step is served: else a crash brings a version back that was left.
 ///
 /// # Errors
 ///
-/// Those of [`write_entry`](crate::write_entry); `Unwritable` too where the entry has 2^32 octets or more. The journal stays as it was.
+/// Those of [`write_entry`](crate::write_entry). The journal stays as it was.
 pub fn push_step(
     alloc: Global,
     origin: &Name,
@@ -27,12 +24,9 @@ pub fn push_step(
     journal: &mut Vec<u8>,
 ) -> Result<(), EntryFault>
     ensures ok { OnOk result (IsPut journal.old.items journal.new.items (step_of step.now)) }
-    ensures fault { IfErr result (IsEntryFault (step_of step.now)) }
+    ensures fault { IfErr result (IsEntryFault origin.now (step_of step.now)) }
     ensures same { OnErr result (journal.new.items ≡ journal.old.items) }
 {
     let entry = write_entry(alloc, origin, step)?;
-    if entry.len() > LONGEST {
-        return Err(EntryFault::Unwritable);
-    }
     Ok(push_frame(journal, entry.as_slice())?)
 }
