@@ -1,13 +1,10 @@
 //! The texts of files of the file system, which programs give to those who read zone files with their inclusions.
 #![tactic(auto)]
 
-mod names;
-
-use names::name_beside;
 use std::alloc::{AllocError, Global};
 use std::fs;
 use std::io::{ErrorKind, Read};
-use zone_texts::Texts;
+use zone_texts::{Texts, name_beside};
 
 /// The files of the file system. Of those alone that are files the text is given: what comes through a pipe can't be read twice.
 #[derive(Drop)]

@@ -1,3 +1,4 @@
+pub mod FileNames
 pub mod Generation
 pub mod GoingOn
 pub mod Inclusions

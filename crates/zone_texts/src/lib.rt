@@ -10,6 +10,7 @@ mod fault;
 mod files;
 mod generate;
 mod lines;
+mod names;
 mod numbers;
 mod pattern;
 mod reading;
@@ -19,6 +20,7 @@ mod texts;
 
 pub use fault::{FaultLine, FaultLines, FileFault, What};
 pub use files::{FilesError, read_files};
+pub use names::name_beside;
 pub use sources::{Chain, FilePlace, Sources, ToldLine};
 pub use state::Reading;
 pub use texts::Texts;
