@@ -5,11 +5,12 @@ ghost use Rattle.message_reading.specs.Octets.{counted_of, long_of, octet_of, oc
 ghost use Rattle.record_fields.specs.declared.field.Field.TheVariants as field;
 ghost use Rattle.zone_file_writer.specs.Rows.{appended, field_words, name_front, name_word, number_word, one_word, pairs_word};
 
-use crate::fronts::{front_long, front_name, front_octets, front_short};
+use crate::fronts::{front_name, front_octets};
 use crate::labels::LabelsText;
 use crate::pairs::{GroupsText, PairsText};
 use crate::strings::{EscapedText, QuotedText, split_string};
 use crate::types::TypeText;
+use message_reading::{long_of, short_of};
 use record_fields::{is_of_messages, is_tag};
 use std::alloc::AllocError;
 use std::fmt::Write;
@@ -40,7 +41,7 @@ pub(crate) fn push_short<'o>(
     ensures { IfOk result (λ rest. option_map (λ r. (string_bytes text.new, r.now)) rest
         ≡ appended (string_bytes text.old) (one_word number_word (short_of octets.now))) }
 {
-    match front_short(octets) {
+    match short_of(octets) {
         None => Ok(None),
         Some((number, rest)) => {
             write!(text, " {number}")?;
@@ -57,7 +58,7 @@ pub(crate) fn push_long<'o>(
     ensures { IfOk result (λ rest. option_map (λ r. (string_bytes text.new, r.now)) rest
         ≡ appended (string_bytes text.old) (one_word number_word (long_of octets.now))) }
 {
-    match front_long(octets) {
+    match long_of(octets) {
         None => Ok(None),
         Some((number, rest)) => {
             write!(text, " {number}")?;
@@ -74,7 +75,7 @@ pub(crate) fn push_type<'o>(
     ensures { IfOk result (λ rest. option_map (λ r. (string_bytes text.new, r.now)) rest
         ≡ appended (string_bytes text.old) (field_words field.RecordType octets.now)) }
 {
-    match front_short(octets) {
+    match short_of(octets) {
         None => Ok(None),
         Some((number, rest)) => {
             let record_type = RecordType(number);

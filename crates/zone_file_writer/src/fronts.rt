@@ -1,6 +1,6 @@
 //! What stands at the front of octets, and the octets behind it.
 ghost use Rattle.std.specs.Prelude.{◌≡◌, ◌≤◌, ◌<◌, length, option_map, IfSome, IsTrue};
-ghost use Rattle.message_reading.specs.Octets.{long_of, octets_of, short_of};
+ghost use Rattle.message_reading.specs.Octets.{octets_of};
 ghost use Rattle.zone_file_writer.specs.Labels.{is_wire_form};
 ghost use Rattle.zone_file_writer.specs.Rows.{if_name, name_front, name_length};
 ghost use Rattle.zone_file_writer.specs.Strings.{strings_of};
@@ -17,25 +17,6 @@ pub(crate) fn front_octets(count: usize, octets: &[u8]) -> Option<(&[u8], &[u8])
         return None;
     }
     Some(octets.split_at(count))
-}
-
-/// A number of 16 bits, the high octet first.
-pub(crate) fn front_short(octets: &[u8]) -> Option<(u16, &[u8])>
-    ensures { option_map (λ x. (x.0, x.1.now)) result ≡ short_of octets.now }
-{
-    match octets {
-        [high, low, rest @ ..] => Some((u16::from(*high) * 256 + u16::from(*low), rest)),
-        _ => None,
-    }
-}
-
-/// A number of 32 bits, the high half first.
-pub(crate) fn front_long(octets: &[u8]) -> Option<(u32, &[u8])>
-    ensures { option_map (λ x. (x.0, x.1.now)) result ≡ long_of octets.now }
-{
-    let (high, rest) = front_short(octets)?;
-    let (low, rest) = front_short(rest)?;
-    Some((u32::from(high) * 65536 + u32::from(low), rest))
 }
 
 /// The wire form of a name (RFC 1035 section 3.1).

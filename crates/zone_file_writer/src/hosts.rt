@@ -4,8 +4,9 @@ ghost use Rattle.zone_file_writer.specs.Rows.{appended, gateway_words, host_word
 
 use crate::addresses::Ipv6Text;
 use crate::fields::{push_ipv4, push_name};
-use crate::fronts::{front_octets, front_short};
+use crate::fronts::front_octets;
 use crate::octets::{Base64Text, HexText};
+use message_reading::short_of;
 use std::alloc::AllocError;
 use std::fmt::Write;
 
@@ -107,7 +108,7 @@ fn push_tag_and_key<'o>(
     ensures { IfOk result (λ rest. option_map (λ r. (string_bytes text.new, r.now)) rest
         ≡ appended (string_bytes text.old) (tag_and_key count algorithm octets.now)) }
 {
-    let Some((size, rest)) = front_short(octets) else {
+    let Some((size, rest)) = short_of(octets) else {
         return Ok(None);
     };
     let Some((tag, rest)) = front_octets(count, rest) else {

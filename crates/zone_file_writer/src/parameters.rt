@@ -9,9 +9,10 @@ ghost use Rattle.zone_file_writer.specs.Rows.{ended};
 
 use crate::addresses::Ipv6Text;
 use crate::bare_words::{WordOctet, WordOctets, is_bare};
-use crate::fronts::{front_octets, front_short};
+use crate::fronts::front_octets;
 use crate::octets::Base64Text;
 use crate::strings::split_string;
+use message_reading::short_of;
 use service_parameters::{ParameterError, Parameters};
 use std::alloc::{AllocError, Global};
 use std::fmt;
@@ -85,8 +86,8 @@ fn front_parameter(octets: &[u8]) -> Option<(u16, &[u8], &[u8])>
     ensures { option_map (λ x. (key_value x.0 x.1.now, x.2.now)) result
         ≡ parameter_front octets.now }
 {
-    let (key, rest) = front_short(octets)?;
-    let (size, rest) = front_short(rest)?;
+    let (key, rest) = short_of(octets)?;
+    let (size, rest) = short_of(rest)?;
     let (value, rest) = front_octets(usize::from(size), rest)?;
     Some((key, value, rest))
 }
@@ -234,7 +235,7 @@ fn push_item<'o>(
                 Ok(Some(rest))
             }
         },
-        _ => match front_short(octets) {
+        _ => match short_of(octets) {
             None => Ok(None),
             Some((number, rest)) => {
                 if key == 0 {
