@@ -1,7 +1,7 @@
 -- What is printed in base32hex is read back.
-use Rattle.std.proofs.Common.{◌≡◌, ◌≢◌, ◌<◌, ◌≤◌, ℕ, zero, suc, ◌+◌, ◌*◌, ◌/◌, ◌%◌, ◌==◌, List, [], ◌∷◌, map, length, Bool, true, false, cond, Some, refl, sym, ap, ◌∙◌, arith}
-use Rattle.std.specs.Prelude.{◌-◌, ◌^◌, nat_eq, nat_le, nat_lt, slice_index}
-use Rattle.std.specs.Char.{digit_char, digit_value, to_ascii_lowercase}
+use Rattle.std.proofs.Common.{◌≡◌, ◌≢◌, ◌<◌, ◌≤◌, ℕ, zero, suc, ◌+◌, ◌*◌, ◌/◌, ◌%◌, ◌==◌, List, [], ◌∷◌, map, length, Bool, true, false, cond, Some, refl, ap, ◌∙◌, arith}
+use Rattle.std.specs.Prelude.{◌-◌, ◌^◌, nat_le, nat_lt, slice_index}
+use Rattle.std.specs.Char.{digit_char, digit_value}
 use Rattle.std.specs.List.{AllByRecursion, range_with_len}
 use Rattle.std.proofs.lemmas.Bool.Decides.{leb_tells, nat_tests}
 use Rattle.std.proofs.lemmas.Str.{digit_value-digit_char}

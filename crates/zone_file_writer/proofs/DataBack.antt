@@ -1,12 +1,10 @@
 -- What is printed of data is read as these data, whatever the origin is.
-use Rattle.std.proofs.Common.{◌≡◌, ◌≢◌, ◌≤◌, ◌<◌, ℕ, ◌+◌, ◌==◌, List, [], ◌∷◌, ◌++◌, map, length, Bool, true, false, cond, ◌||◌, ◌&&◌, None, Some, Ok, refl, sym, ap, subst, ◌∙◌, arith, append-nil, codes}
-use Rattle.std.specs.Prelude.{nat_le, nat_lt, not, unwrap_or}
+use Rattle.std.proofs.Common.{◌≡◌, ◌≢◌, ◌≤◌, ◌<◌, ℕ, ◌==◌, List, [], ◌∷◌, length, Bool, true, false, ◌||◌, ◌&&◌, None, Some, Ok, refl, sym, ap, subst, ◌∙◌, arith, append-nil, codes}
+use Rattle.std.specs.Prelude.{nat_le}
 use Rattle.std.specs.Fmt.{decimal}
 use Rattle.std.specs.Int.{w32, cast_unsigned}
-use Rattle.std.specs.List.{list_all, list_any, AllByRecursion}
+use Rattle.std.specs.List.{list_any, AllByRecursion}
 use Rattle.std.proofs.lemmas.Bool.Decides.{leb_tells, nat_tests}
-use Rattle.std.proofs.lemmas.Fmt.{decimal_is_IsNumeral}
-use Rattle.std.specs.Str.Parse.{AllDigits}
 use Rattle.zone_proto.specs.declared.record_type.RecordType.{RecordType}
 use Rattle.zone_proto.specs.declared.rdata.RData.{RData}
 use Rattle.zone_proto.specs.declared.rdata.RData.TheVariants as V
@@ -23,7 +21,6 @@ use Rattle.zone_proto.specs.Types.{has_own_case}
 use Rattle.zone_proto.specs.Base32.{base32_text}
 use Rattle.zone_proto.specs.Names.{Name, IsName}
 use Rattle.zone_proto.specs.Text.{name_text}
-use Rattle.zone_proto.specs.TypeText.{Word, type_text, type_words, word_of}
 use Rattle.zone_proto.specs.Data.{same_octets, type_of}
 use Rattle.line_text.specs.Addresses.{ipv4_text}
 use Rattle.zone_tokens.specs.Addresses.{ipv6_of_word}
@@ -34,8 +31,6 @@ use Rattle.line_text.specs.Hex.{hex_text}
 use Rattle.line_text.specs.Numbers.{number_within}
 use Rattle.line_text.specs.MailExchange.{IsReadableMx}
 use Rattle.line_text.specs.Service.{IsReadableSrv}
-use Rattle.line_text.specs.Parts.{joined}
-use Rattle.line_text.proofs.PrintedWords.{and_both}
 use Rattle.line_text.proofs.RoundTrips.{decimal_read, hex_read}
 use Rattle.zone_scanner.specs.declared.place.Place.{Place}
 use Rattle.record_fields.specs.Fields.{Left, Reading, left_at, next_name}
@@ -46,16 +41,15 @@ use Rattle.zone_file.specs.Keys.{next_dnskey, next_rrsig}
 use Rattle.record_fields.specs.Texts.{any_hex, generic, next_generic}
 use Rattle.zone_file_writer.specs.Others.{base64_text, hex_digits, octets_words}
 use Rattle.zone_file_writer.specs.Rows.{other_words}
-use Rattle.zone_file_writer.specs.Words.{PrintedWord, Bare, further_words, type_word}
+use Rattle.zone_file_writer.specs.Words.{PrintedWord, Bare, type_word}
 use Rattle.zone_file_writer.specs.Printable.{AreTypesFrom, IsPrintableSoa, IsPrintableKey, IsPrintableSignature, IsPrintableDenial, IsPrintableHashed, IsPrintableParameters, IsPrintableOther, IsPrintableData}
 use Rattle.zone_file_writer.proofs.Lines.{words_from}
-use Rattle.zone_file_writer.proofs.WordTexts.{value_harmless}
-use Rattle.zone_file_writer.proofs.NamesBack.{first_is, first_of_name, name_there, not_generic}
+use Rattle.zone_file_writer.proofs.NamesBack.{first_of_name, name_there}
 use Rattle.zone_file_writer.proofs.AddressesBack.{ipv4_back}
 use Rattle.zone_file_writer.proofs.NumbersBack.{u8_back, u16_back, u32_back, algorithm_back, signed_back, timer_back, type_back, unsigned_small, digits_back}
 use Rattle.zone_file_writer.proofs.DateFacts.{moment_back}
 use Rattle.zone_file_writer.proofs.PlacedWords.{behind, last_from, left}
-use Rattle.zone_file_writer.proofs.OwnFirst.{decimal_own, first_own, digits_first, ipv4_own}
+use Rattle.zone_file_writer.proofs.OwnFirst.{decimal_own, ipv4_own}
 use Rattle.zone_file_writer.proofs.RowsBack.{IsForm, own, any, other_form}
 use Rattle.zone_file_writer.proofs.Base32Back.{hash_back}
 use Rattle.zone_file_writer.proofs.Base64Facts.{base64_back}

@@ -1,5 +1,5 @@
 -- What is printed of data is words of a zone file.
-use Rattle.std.proofs.Common.{◌≡◌, ◌≢◌, ◌≤◌, ◌<◌, ℕ, ◌+◌, List, [], ◌∷◌, ◌++◌, map, length, Bool, true, false, refl, sym, ap, subst, arith, append_assoc, append-nil, codes}
+use Rattle.std.proofs.Common.{◌≡◌, ◌≢◌, ◌≤◌, ◌<◌, ℕ, List, [], ◌∷◌, ◌++◌, length, Bool, true, false, refl, sym, ap, subst, arith, append_assoc, append-nil, codes}
 use Rattle.std.specs.Fmt.{decimal}
 use Rattle.std.specs.Prelude.{ℤ}
 use Rattle.std.specs.Int.{w32, cast_unsigned}
@@ -24,11 +24,11 @@ use Rattle.zone_file_writer.specs.Others.{base64_text, hex_words, octets_words}
 use Rattle.zone_file_writer.specs.Rows.{other_words}
 use Rattle.zone_file_writer.specs.Printing.{master_data_text, timer_text}
 use Rattle.zone_file_writer.specs.Words.{PrintedWord, Bare, type_word, types_text, words_text}
-use Rattle.zone_file_writer.specs.Printable.{AreTypesFrom, IsPrintableData}
+use Rattle.zone_file_writer.specs.Printable.{IsPrintableData}
 use Rattle.zone_file_writer.proofs.Lines.{IsBareText, AreWordTexts}
 use Rattle.zone_file_writer.proofs.WordTexts.{backslash_ordinary, decimal_text, digits_are_text, hex_is_text, moment_is_text, address_is_text, ipv4_is_text, name_is_text, type_is_text}
 use Rattle.zone_file_writer.proofs.NumbersBack.{unsigned_small}
-use Rattle.zone_file_writer.proofs.PlacedWords.{behind, last_from}
+use Rattle.zone_file_writer.proofs.PlacedWords.{last_from}
 use Rattle.zone_file_writer.proofs.RowsBack.{IsForm, own, any, other_form}
 use Rattle.zone_file_writer.proofs.TypesBack.{type_texts, types_are_texts}
 use Rattle.zone_file_writer.proofs.Base32Back.{base32_is_text}

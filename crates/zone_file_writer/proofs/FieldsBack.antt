@@ -1,16 +1,14 @@
 -- A field that is printed is read as its octets.
-use Rattle.std.proofs.Common.{◌≡◌, ◌≤◌, ◌<◌, ◌^◌, ℕ, zero, suc, ◌+◌, ◌*◌, ◌/◌, ◌%◌, ◌==◌, List, [], ◌∷◌, ◌++◌, length, take, drop, Bool, true, false, cond, Option, Some, None, Ok, refl, sym, ap, subst, ◌∙◌, arith}
+use Rattle.std.proofs.Common.{◌≡◌, ◌≤◌, ◌<◌, ◌^◌, ℕ, zero, suc, ◌+◌, ◌*◌, ◌/◌, ◌%◌, List, [], ◌∷◌, ◌++◌, length, take, drop, Bool, true, false, cond, Option, Some, None, Ok, refl, sym, ap, subst, ◌∙◌, arith}
 use Rattle.std.specs.Prelude.{nat_le}
 use Rattle.std.specs.Fmt.{decimal}
 use Rattle.std.specs.List.{AllByRecursion}
-use Rattle.std.proofs.lemmas.Bool.Decides.{leb_tells, nat_tests}
+use Rattle.std.proofs.lemmas.Bool.Decides.{leb_tells}
 use Rattle.zone_proto.specs.Names.{Name, IsName, wire_form}
 use Rattle.zone_proto.specs.Data.{same_octets}
-use Rattle.zone_proto.specs.Text.{name_text}
 use Rattle.zone_proto.specs.declared.record_type.RecordType.{RecordType}
 use Rattle.line_text.specs.Addresses.{ipv4_text, ipv6_text}
 use Rattle.line_text.specs.Numbers.{number_within}
-use Rattle.line_text.proofs.PrintedWords.{and_both}
 use Rattle.message_reading.specs.Octets.{◌>>=◌, counted_of, octet_of, octets_of, short_of}
 use Rattle.zone_scanner.specs.declared.place.Place.{Place}
 use Rattle.zone_tokens.specs.Addresses.{ipv4_of_word}
@@ -29,7 +27,7 @@ use Rattle.zone_file_writer.specs.Others.{string_word}
 use Rattle.zone_file_writer.specs.Printable.{IsRecordType}
 use Rattle.zone_file_writer.specs.Rows.{field_words, if_name, if_tag, name_front, name_length, name_word, number_word, one_word, pairs_text, pairs_word}
 use Rattle.zone_file_writer.specs.Strings.{escaped, strings_of}
-use Rattle.zone_file_writer.specs.Words.{PrintedWord, Bare, Quoted, type_word}
+use Rattle.zone_file_writer.specs.Words.{PrintedWord, Bare, type_word}
 use Rattle.zone_file_writer.proofs.AddressesBack.{ipv4_back}
 use Rattle.zone_file_writer.proofs.LabelFacts.{named}
 use Rattle.zone_file_writer.proofs.Lines.{AreWordTexts, IsBareText, words_from}

@@ -2,7 +2,7 @@
 use Rattle.std.proofs.Common.{◌≡◌, ℕ, List, [], ◌∷◌, ◌++◌, Option, Some, None, refl, ap, ◌∙◌, append_assoc, ◌≤◌, ◌/◌, ◌%◌, ◌-◌, zero, suc, length, take, drop, get_or, arith}
 use Rattle.std.specs.Fmt.{decimal}
 use Rattle.zone_file_writer.specs.Rows.{appended, behind_numbers, behind_spaces, gateway_words, host_word, one_host, relay_words}
-use Rattle.zone_file_writer.specs.Words.{PrintedWord, word_text}
+use Rattle.zone_file_writer.specs.Words.{PrintedWord}
 
 host_behind : (text new : List ℕ) (m n : ℕ) (host : Option (PrintedWord × List ℕ)) → new ≡ text ++ (32 ∷ (decimal m ++ (32 ∷ decimal n)))
     → appended new (one_host host) ≡ appended text (behind_numbers m n host)

@@ -1,24 +1,23 @@
 -- Gateways, relays and identities of hosts that are printed are read as their octets.
-use Rattle.std.proofs.Common.{◌≡◌, ◌≤◌, ◌<◌, ℕ, ◌+◌, ◌*◌, ◌/◌, ◌%◌, ◌==◌, List, [], ◌∷◌, ◌++◌, length, take, drop, Bool, true, false, cond, ◌&&◌, Option, Some, None, Ok, refl, sym, ap, subst, ◌∙◌, arith, append_assoc, codes}
+use Rattle.std.proofs.Common.{◌≡◌, ◌≤◌, ◌<◌, ℕ, ◌+◌, ◌*◌, ◌/◌, ◌%◌, ◌==◌, List, [], ◌∷◌, ◌++◌, length, take, drop, Bool, true, false, cond, ◌&&◌, Option, Some, None, Ok, refl, ap, subst, ◌∙◌, arith, append_assoc, codes}
 use Rattle.std.specs.Prelude.{nat_le, nat_lt}
 use Rattle.std.proofs.lemmas.Bool.Decides.{leb_tells, nat_tests}
 use Rattle.zone_proto.specs.Names.{Name}
 use Rattle.line_text.specs.Addresses.{ipv4_text}
 use Rattle.line_text.proofs.PrintedWords.{and_both}
 use Rattle.line_text.proofs.RoundTrips.{decimal_read}
-use Rattle.message_reading.specs.Octets.{◌>>=◌, octets_of, short_of}
+use Rattle.message_reading.specs.Octets.{◌>>=◌, octets_of}
 use Rattle.zone_scanner.specs.declared.place.Place.{Place}
-use Rattle.record_fields.specs.declared.field.Field.{Field}
 use Rattle.record_fields.specs.declared.field.Field.TheVariants as F
 use Rattle.record_fields.specs.Hosts.{key_of_word, next_gateway, next_host, next_identity, next_relay, tag_of_word}
 use Rattle.zone_file_writer.specs.Addresses.{address_text}
 use Rattle.zone_file_writer.specs.Labels.{labels_of}
 use Rattle.zone_file_writer.specs.Others.{base64_text, hex_digits}
-use Rattle.zone_file_writer.specs.Rows.{behind_numbers, field_words, host_word, identity_parts, name_front, name_word, number_word, tag_and_key}
+use Rattle.zone_file_writer.specs.Rows.{behind_numbers, field_words, host_word, identity_parts, name_front, name_word, number_word}
 use Rattle.zone_file_writer.specs.Words.{PrintedWord, Bare}
 use Rattle.zone_file_writer.proofs.AddressesBack.{ipv4_back}
 use Rattle.zone_file_writer.proofs.Base64Facts.{base64_back, base64_is_text}
-use Rattle.zone_file_writer.proofs.FieldsBack.{AreOctets, IsBack, IsBackIf, IsCut, IsNameFrontIf, cut, name_cut}
+use Rattle.zone_file_writer.proofs.FieldsBack.{AreOctets, IsBackIf, IsCut, IsNameFrontIf, cut, name_cut}
 use Rattle.zone_file_writer.proofs.Ipv6Back.{address_back}
 use Rattle.zone_file_writer.proofs.Lines.{AreWordTexts}
 use Rattle.zone_file_writer.proofs.NamesBack.{name_there}

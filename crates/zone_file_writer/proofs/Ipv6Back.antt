@@ -1,20 +1,20 @@
 -- Printed IPv6 addresses are read back.
-use Rattle.std.proofs.Common.{◌≡◌, ◌≢◌, ◌≤◌, ◌<◌, ℕ, zero, suc, ◌+◌, ◌-◌, ◌*◌, ◌/◌, ◌%◌, ◌==◌, List, [], ◌∷◌, ◌++◌, map, length, take, drop, replicate, Bool, true, false, cond, ◌&&◌, Option, Some, None, refl, sym, ap, subst, ◌∙◌, arith, append_assoc, append-nil, length-append}
+use Rattle.std.proofs.Common.{◌≡◌, ◌≤◌, ◌<◌, ℕ, zero, suc, ◌+◌, ◌-◌, ◌*◌, ◌/◌, ◌%◌, ◌==◌, List, [], ◌∷◌, ◌++◌, map, length, take, drop, replicate, Bool, true, false, cond, Option, Some, None, refl, sym, ap, subst, ◌∙◌, arith, append_assoc, append-nil, length-append}
 use Rattle.std.specs.Prelude.{nat_le, nat_lt, option_map}
-use Rattle.std.specs.Char.{digit_char, digit_value, is_digit}
+use Rattle.std.specs.Char.{digit_char}
 use Rattle.std.specs.List.{All, AllByRecursion, count_by, flat_map}
 use Rattle.std.proofs.lemmas.Bool.Decides.{leb_tells, nat_tests}
 use Rattle.std.proofs.lemmas.List.{take_at, drop_at}
 use Rattle.std.proofs.lemmas.List.Elements.{All-cons}
 use Rattle.std.proofs.lemmas.List.Sums.{sum_by-cons}
 use Rattle.std.proofs.lemmas.List.Splits.{slice_split_at, slice_split_none}
-use Rattle.line_text.specs.Numbers.{at_most, is_numeral, number_within}
+use Rattle.line_text.specs.Numbers.{number_within}
 use Rattle.line_text.specs.Parts.{parts, octets_of_parts}
-use Rattle.line_text.specs.Addresses.{group_of_text, group_octets, octets_of_group, ipv6_of_text}
+use Rattle.line_text.specs.Addresses.{group_octets, octets_of_group, ipv6_of_text}
 use Rattle.line_text.proofs.Digits.{within_most}
 use Rattle.line_text.proofs.RoundTrips.{char_value}
 use Rattle.zone_tokens.specs.Addresses.{double_at, full_form, group_count, groups_of_word, ipv6_of_word, with_groups, with_zero, with_zeros}
-use Rattle.zone_file_writer.specs.Addresses.{address_text, behind_colons, group_text, groups_of, groups_text, longer_run, longest_run, without_run, zeros_in_front}
+use Rattle.zone_file_writer.specs.Addresses.{address_text, behind_colons, group_text, groups_of, groups_text, longest_run, zeros_in_front}
 
 -- ---- one group
 

@@ -1,8 +1,8 @@
 -- Labels, one behind the other, and the names that they are
-use Rattle.std.proofs.Common.{◌≡◌, ◌≢◌, ◌≤◌, ◌<◌, ℕ, suc, ◌+◌, List, [], ◌∷◌, ◌++◌, Bool, true, false, ◌&&◌, Option, Some, None, refl, sym, ap, ◌∙◌, arith, length, length-append, append-nil}
+use Rattle.std.proofs.Common.{◌≡◌, ◌≢◌, ◌≤◌, ◌<◌, ℕ, List, [], ◌∷◌, ◌++◌, Bool, true, false, ◌&&◌, Some, None, refl, sym, ap, ◌∙◌, arith, length, length-append, append-nil}
 use Rattle.std.specs.Prelude.{nat_le, filter}
 use Rattle.std.specs.List.{flat_map, AllByRecursion}
-use Rattle.std.proofs.lemmas.Bool.Decides.{leb_tells, nat_tests}
+use Rattle.std.proofs.lemmas.Bool.Decides.{leb_tells}
 use Rattle.message_reading.specs.Octets.{counted_of}
 use Rattle.zone_file_writer.specs.Labels.{are_labels, has_octets, is_end, is_name, is_wire_form, labels_of, part_text, parts_text}
 use Rattle.zone_proto.specs.Names.{Name, IsLabel, IsName, wire_form, wire_length}

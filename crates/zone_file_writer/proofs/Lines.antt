@@ -1,5 +1,5 @@
 -- Printed words with single spaces between them, and a line feed behind the last, are read as an entry of these words.
-use Rattle.std.proofs.Common.{◌≡◌, ◌≤◌, ◌<◌, ℕ, ◌+◌, length, List, [], ◌∷◌, ◌++◌, map, Bool, true, false, cond, ◌==◌, refl, sym, ap, ◌∙◌, arith, append_assoc, append-nil, length-append}
+use Rattle.std.proofs.Common.{◌≡◌, ◌≤◌, ◌<◌, ℕ, ◌+◌, length, List, [], ◌∷◌, ◌++◌, Bool, true, false, cond, ◌==◌, refl, sym, ap, ◌∙◌, arith, append_assoc, append-nil, length-append}
 use Rattle.std.specs.Prelude.{nat_le}
 use Rattle.std.proofs.lemmas.Bool.Decides.{leb_tells}
 use Rattle.zone_file_writer.specs.Words.{PrintedWord, Bare, Quoted, word_text, words_text}

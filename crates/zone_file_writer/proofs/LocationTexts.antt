@@ -1,6 +1,5 @@
 -- The words of a location, put behind a text
-use Rattle.std.proofs.Common.{◌≡◌, ℕ, List, [], ◌∷◌, ◌++◌, map, Bool, true, false, cond, Option, Some, None, refl, sym, ap, ◌∙◌}
-use Rattle.message_reading.specs.Octets.{◌>>=◌}
+use Rattle.std.proofs.Common.{◌≡◌, ℕ, List, [], ◌∷◌, ◌++◌, map, true, false, Some, None, refl, sym, ap, ◌∙◌}
 use Rattle.record_fields.specs.Locations.{location_of_line}
 use Rattle.zone_file_writer.specs.declared.locations.Location.{Location}
 use Rattle.zone_file_writer.specs.Locations.{is_octets, line_text, location_front, location_texts, location_words}

@@ -1,10 +1,10 @@
 -- Printed locations are words, and are read as their octets.
-use Rattle.std.proofs.Common.{◌≡◌, ◌≤◌, ◌<◌, ◌^◌, ℕ, zero, suc, ◌+◌, ◌-◌, ◌*◌, ◌/◌, ◌%◌, ◌==◌, List, [], ◌∷◌, ◌++◌, map, Bool, true, false, cond, ◌&&◌, Option, Some, None, Ok, refl, sym, ap, ◌∙◌, arith}
+use Rattle.std.proofs.Common.{◌≡◌, ◌≤◌, ◌<◌, ◌^◌, ℕ, zero, suc, ◌+◌, ◌-◌, ◌*◌, ◌/◌, ◌%◌, ◌==◌, List, [], ◌∷◌, ◌++◌, map, Bool, true, false, cond, Option, Some, None, Ok, refl, ap, arith}
 use Rattle.std.specs.Prelude.{nat_le, slice_index}
 use Rattle.std.specs.Fmt.{decimal}
 use Rattle.std.specs.List.{list_all}
 use Rattle.std.proofs.Math.Nat.{mul-le-mul}
-use Rattle.std.proofs.lemmas.Bool.Decides.{leb_tells, nat_tests}
+use Rattle.std.proofs.lemmas.Bool.Decides.{leb_tells}
 use Rattle.zone_proto.specs.TextForm.{three_digits}
 use Rattle.line_text.proofs.PrintedWords.{and_both}
 use Rattle.message_reading.specs.Octets.{◌>>=◌, long_of, octet_of}
@@ -17,7 +17,7 @@ use Rattle.zone_file_writer.specs.declared.locations.Location.{Location}
 use Rattle.zone_file_writer.specs.declared.locations.TheConstants.{POWERS}
 use Rattle.zone_file_writer.specs.Locations.{altitude_text, angle_texts, from_zero, latitude_letter, longitude_letter, is_octets, line_text, location_front, location_texts, meters_text, precision_text, seconds_text, size_text}
 use Rattle.zone_file_writer.specs.Moments.{two_digits}
-use Rattle.zone_file_writer.specs.Words.{PrintedWord, Bare}
+use Rattle.zone_file_writer.specs.Words.{Bare}
 use Rattle.zone_file_writer.proofs.FieldsBack.{AreOctets}
 use Rattle.zone_file_writer.proofs.Lines.{AreWordTexts, IsBareText, IsInWord, words_from}
 use Rattle.zone_file_writer.proofs.OwnFirst.{decimal_own}

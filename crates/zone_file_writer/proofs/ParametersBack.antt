@@ -1,6 +1,6 @@
 -- Printed parameters of a service are read as their octets.
 use Rattle.std.proofs.Common.{◌≡◌, ℕ, List, [], ◌∷◌, map, Bool, true, false, cond, ◌==◌, Result, Ok, Err, refl, ap, arith, eqb-true, eq-eqb, Decides}
-use Rattle.std.proofs.lemmas.Bool.Decides.{leb_tells, nat_tests}
+use Rattle.std.proofs.lemmas.Bool.Decides.{leb_tells}
 use Rattle.zone_proto.specs.Data.{same_octets}
 use Rattle.zone_scanner.specs.declared.place.Place.{Place}
 use Rattle.zone_scanner.specs.Signs.{place_behind}
@@ -12,7 +12,7 @@ use Rattle.record_fields.specs.Parameters.{next_parameters, parameters_of}
 use Rattle.record_fields.specs.Texts.{generic, is_generic}
 use Rattle.zone_file_writer.specs.BareWords.{are_of_word, goes_on, is_bare}
 use Rattle.zone_file_writer.specs.Parameters.{are_octets, are_read, read_texts, then_read, with_printed}
-use Rattle.zone_file_writer.specs.Words.{PrintedWord, Bare}
+use Rattle.zone_file_writer.specs.Words.{Bare}
 use Rattle.zone_file_writer.proofs.Lines.{AreWordTexts, IsBareText, IsInWord, IsOrdinary, place_after, words_from}
 use Rattle.zone_file_writer.proofs.PlacedWords.{left}
 use Rattle.zone_file_writer.proofs.WordTexts.{ordinary}

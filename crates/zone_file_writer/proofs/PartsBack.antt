@@ -1,5 +1,5 @@
 -- What is printed of groups of hex, and of octets with hyphens between them, is read as them.
-use Rattle.std.proofs.Common.{◌≡◌, ◌<◌, ℕ, ◌+◌, ◌*◌, ◌/◌, ◌%◌, List, [], ◌∷◌, ◌++◌, length, ◌==◌, true, false, Some, refl, ap, ◌∙◌, arith, codes}
+use Rattle.std.proofs.Common.{◌≡◌, ◌<◌, ℕ, ◌+◌, ◌*◌, ◌/◌, ◌%◌, List, [], ◌∷◌, ◌++◌, length, ◌==◌, true, false, Some, refl, ap, arith}
 use Rattle.std.specs.Prelude.{nat_lt}
 use Rattle.std.specs.Char.{digit_char}
 use Rattle.std.specs.List.{AllByRecursion}
@@ -8,7 +8,7 @@ use Rattle.zone_proto.specs.Data.{same_octets}
 use Rattle.line_text.specs.Addresses.{ipv6_text}
 use Rattle.line_text.specs.Hex.{hex_octet, hex_of_octet}
 use Rattle.line_text.proofs.RoundTrips.{char_value, ipv6_read}
-use Rattle.record_fields.specs.Parts.{groups_of_word, of_count, pairs_of, pairs_of_word}
+use Rattle.record_fields.specs.Parts.{groups_of_word, pairs_of, pairs_of_word}
 use Rattle.record_fields.specs.Texts.{generic}
 use Rattle.zone_file_writer.specs.Rows.{further_pairs, pairs_text}
 use Rattle.zone_file_writer.proofs.Lines.{IsBareText, IsInWord}

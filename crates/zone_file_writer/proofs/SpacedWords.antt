@@ -1,7 +1,6 @@
 -- Words with a space before each are words with single spaces between them, behind one.
 use Rattle.std.proofs.Common.{◌≡◌, ℕ, List, [], ◌∷◌, ◌++◌, Option, Some, None, refl, ap, sym, ◌∙◌, append-nil, append_assoc}
 use Rattle.std.specs.Prelude.{option_map}
-use Rattle.std.specs.List.{flat_map}
 use Rattle.record_fields.specs.declared.table.Row.{Row}
 use Rattle.zone_file_writer.specs.Others.{octets_words}
 use Rattle.zone_file_writer.specs.Rows.{behind_spaces, row_words, some_words, words_by_row, words_or_octets}

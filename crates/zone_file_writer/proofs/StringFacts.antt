@@ -1,5 +1,5 @@
 -- Strings, one behind the other, and what is read of them
-use Rattle.std.proofs.Common.{◌≡◌, ◌≢◌, ◌≤◌, ◌<◌, ℕ, zero, suc, ◌+◌, ◌-◌, ◌*◌, ◌/◌, ◌%◌, ◌==◌, List, [], ◌∷◌, ◌++◌, Bool, true, false, cond, ◌&&◌, ◌||◌, Option, Some, None, refl, sym, ap, subst, ◌∙◌, arith, length, take, drop, append_assoc, length-append, append-nil, map}
+use Rattle.std.proofs.Common.{◌≡◌, ◌≢◌, ◌≤◌, ◌<◌, ℕ, zero, suc, ◌+◌, ◌-◌, ◌*◌, ◌/◌, ◌%◌, ◌==◌, List, [], ◌∷◌, ◌++◌, Bool, true, false, cond, ◌&&◌, ◌||◌, Option, Some, None, refl, sym, ap, subst, ◌∙◌, arith, length, take, drop, append_assoc, length-append, map}
 use Rattle.std.specs.Prelude.{nat_le, option_map}
 use Rattle.std.specs.List.{flat_map, AllByRecursion}
 use Rattle.std.proofs.lemmas.Bool.Decides.{leb_tells, nat_tests}
@@ -8,7 +8,6 @@ use Rattle.zone_tokens.specs.Strings.{octets_of_text}
 use Rattle.zone_proto.specs.TextForm.{is_digit}
 use Rattle.zone_file_writer.specs.Others.{string_word}
 use Rattle.zone_file_writer.specs.Rows.{all_strings, behind_spaces}
-use Rattle.zone_file_writer.specs.Words.{word_text}
 use Rattle.zone_file_writer.specs.Strings.{escaped, escaped_octet, further_text, quoted_text, string_then, strings_of, strings_within}
 
 -- ---- octets between quotes are read back

@@ -1,7 +1,6 @@
 -- The words of a type bit map, put behind a text
-use Rattle.std.proofs.Common.{◌≡◌, ℕ, List, [], ◌∷◌, ◌++◌, map, true, false, Option, Some, None, refl, sym, ap, ◌∙◌}
+use Rattle.std.proofs.Common.{◌≡◌, ℕ, List, [], ◌∷◌, ◌++◌, map, true, false, Option, Some, None, refl, sym, ap}
 use Rattle.zone_proto.specs.declared.record_type.RecordType.{RecordType}
-use Rattle.message_reading.specs.Octets.{◌>>=◌}
 use Rattle.message_reading.specs.TypeMaps.{types_of}
 use Rattle.zone_file_writer.specs.Rows.{behind_spaces, ended}
 use Rattle.zone_file_writer.specs.TypeLists.{if_map_of, is_map_of, types_words}

@@ -5,7 +5,7 @@ use Rattle.std.specs.Cmp.{nat_cmp_is}
 use Rattle.std.specs.Fmt.{decimal}
 use Rattle.std.specs.List.{list_all}
 use Rattle.std.specs.Ordering.{match_ordering}
-use Rattle.std.proofs.lemmas.Bool.Decides.{leb_tells, nat_tests}
+use Rattle.std.proofs.lemmas.Bool.Decides.{leb_tells}
 use Rattle.line_text.proofs.PrintedWords.{and_both}
 use Rattle.zone_proto.specs.declared.record_type.RecordType.{RecordType}
 use Rattle.zone_proto.specs.Data.{same_octets}

@@ -1,6 +1,6 @@
 -- IPv6 addresses in their recommended form (RFC 5952 section 4): groups in hex without leading zeros, letters in lower case, and `::`
 -- for the longest run of groups of zero, if it has two at least; of several that are as long for the first
-use Rattle.std.specs.Prelude.{ℕ, ◌+◌, ◌*◌, ◌/◌, ◌%◌, ◌++◌, ◌==◌, List, [], ◌∷◌, map, take, drop, nat_le, nat_lt, if◌then◌else◌}
+use Rattle.std.specs.Prelude.{ℕ, ◌+◌, ◌*◌, ◌/◌, ◌%◌, ◌++◌, ◌==◌, List, [], ◌∷◌, take, drop, nat_le, nat_lt, if◌then◌else◌}
 use Rattle.std.specs.Char.{digit_char}
 use Rattle.std.specs.List.{flat_map, prefix_len}
 

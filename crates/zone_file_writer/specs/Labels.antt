@@ -1,5 +1,5 @@
 -- Names as data have them, in wire form (RFC 1035 section 3.1)
-use Rattle.std.specs.Prelude.{ℕ, ◌++◌, List, [], ◌∷◌, Bool, true, false, ◌&&◌, length, nat_le, filter}
+use Rattle.std.specs.Prelude.{ℕ, List, [], ◌∷◌, Bool, true, false, ◌&&◌, length, nat_le, filter}
 use Rattle.std.specs.List.{flat_map}
 use Rattle.zone_proto.specs.Names.{Name}
 use Rattle.zone_proto.specs.Text.{label_text}

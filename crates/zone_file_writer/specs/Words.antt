@@ -1,5 +1,5 @@
 -- The words of printed records, and the words of types
-use Rattle.std.specs.Prelude.{ℕ, ◌++◌, List, [], ◌∷◌, map, codes, Option, unwrap_or}
+use Rattle.std.specs.Prelude.{ℕ, ◌++◌, List, [], ◌∷◌, map, codes, unwrap_or}
 use Rattle.std.specs.List.{flat_map}
 use Rattle.zone_proto.specs.declared.record_type.RecordType.{RecordType}
 use Rattle.zone_proto.specs.TypeText.{Word, type_text, word_of}

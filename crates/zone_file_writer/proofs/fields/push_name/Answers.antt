@@ -1,4 +1,4 @@
-use Rattle.std.proofs.Common.{rules, arith, ◌≡◌, length, string_bytes, ℕ, List, [], ◌∷◌, ◌++◌, true, Option, Some, sym, ap, ◌∙◌, append-nil}
+use Rattle.std.proofs.Common.{rules, arith, ◌≡◌, length, string_bytes, ℕ, List, ◌∷◌, ◌++◌, true, Option, Some, sym, ap, ◌∙◌, append-nil}
 use Rattle.zone_proto.specs.Text.{name_text}
 use Rattle.zone_file_writer.specs.Labels.{is_wire_form, labels_of}
 use Rattle.zone_file_writer.specs.Rows.{appended, name_word, one_word}

@@ -1,4 +1,4 @@
-use Rattle.std.proofs.Common.{◌≡◌, ◌≢◌, ◌==◌, ℕ, zero, suc, ◌+◌, length, List, false, Some, rules, sym, ap, ◌∙◌, arith, length-append}
+use Rattle.std.proofs.Common.{◌≡◌, ◌≢◌, ◌==◌, ℕ, zero, suc, length, List, false, Some, rules, sym, ap, ◌∙◌, arith, length-append}
 use Rattle.message_reading.specs.Octets.{counted_of}
 use Rattle.zone_file_writer.proofs.NameLengths.{label_more}
 use Rattle.zone_file_writer.proofs.StringFacts.{front}

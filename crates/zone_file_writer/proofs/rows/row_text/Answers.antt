@@ -1,7 +1,6 @@
-use Rattle.std.proofs.Common.{rules, arith, ◌≡◌, ◌<◌, ℕ, length, List, [], Bool, true, false, cond, Option, Some, None, string_bytes, sym, ap, ◌∙◌}
+use Rattle.std.proofs.Common.{rules, arith, ◌≡◌, ◌<◌, ℕ, length, List, [], Bool, cond, Option, Some, None, string_bytes, sym, ap, ◌∙◌}
 use Rattle.std.specs.Prelude.{option_map}
 use Rattle.std.proofs.lemmas.Bool.Decides.{nat_tests}
-use Rattle.record_fields.specs.declared.field.Field.{Field}
 use Rattle.record_fields.specs.Rows.{fields_of}
 use Rattle.zone_file_writer.specs.Rows.{behind_spaces, row_words}
 use Rattle.zone_file_writer.specs.Words.{PrintedWord}

@@ -1,4 +1,4 @@
-use Rattle.std.proofs.Common.{rules, ◌≡◌, ◌∷◌, ℕ, List, Option, Some, None, string_bytes, subst, ap}
+use Rattle.std.proofs.Common.{rules, ◌≡◌, ◌∷◌, ℕ, List, Some, None, string_bytes, subst}
 use Rattle.std.specs.Prelude.{option_map}
 use Rattle.std.specs.Fmt.{HasWritten}
 use Rattle.record_fields.specs.Rows.{row_of}
