@@ -39,8 +39,8 @@ pub fn reply_to(held: u32, newest: u32, steps: &[ZoneStep]) -> DifferenceReply
     }
 }
 
-/// Whether a step begins at a serial.
-fn has_step_at(serial: u32, steps: &[ZoneStep]) -> bool
+/// Whether one of some steps begins at a serial. Doesn't allocate.
+pub fn has_step_at(serial: u32, steps: &[ZoneStep]) -> bool
     ensures { result ≡ list_any (begins_at serial) steps.now }
 {
     steps.iter().any(|step| begins_at(serial, step))
@@ -53,8 +53,8 @@ fn place_of(serial: u32, steps: &[ZoneStep]) -> Option<usize>
     steps.iter().position(|step| begins_at(serial, step))
 }
 
-/// Whether a step begins at a serial.
-fn begins_at(serial: u32, step: &ZoneStep) -> bool
+/// Whether a step begins at a serial: it leads on from a version that has it. Doesn't allocate.
+pub fn begins_at(serial: u32, step: &ZoneStep) -> bool
     ensures { result ≡ begins_at serial step.now }
 {
     match serial_of(&step.old_soa) {
