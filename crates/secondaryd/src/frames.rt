@@ -2,8 +2,9 @@
 ghost use Rattle.std.specs.Prelude.{◌≡◌, length, IfOk, OnOk};
 ghost use Rattle.std.specs.Int.{w32, w64};
 ghost use Rattle.std.specs.Io.KnownBytes.{Appends, Consumes};
-ghost use Rattle.secondaryd.specs.Frames.{frame_text, ReadsEvent, ReadsKind, ReadsNumber};
+ghost use Rattle.secondaryd.specs.Frames.{frame_text, kind_of, ReadsEvent, ReadsKind, ReadsNumber, ReadsOctet};
 
+use input_reads::read_some;
 use std::alloc::Global;
 use std::io;
 use std::io::{ErrorKind, Read, Write};
@@ -11,19 +12,34 @@ use std::io::{ErrorKind, Read, Write};
 /// How many octets a frame has at most: more than any message.
 const MOST: u32 = 131_072;
 
+/// What kind of event happened, by the octet that says it.
+#[derive(Clone, Copy, PartialEq, Eq, Debug)]
+pub enum EventKind {
+    /// `a`: a question may go out.
+    MayAsk,
+    /// `m`: a message of the answer came.
+    Message,
+    /// `f`: nothing comes of the question.
+    Failure,
+    /// `n`: octets came as a NOTIFY.
+    Notification,
+    /// `t`: nothing but that time passed.
+    Time,
+}
+
 /// What happened.
 #[derive(Drop)]
 pub struct Event {
     /// Its kind.
-    pub kind: u8,
+    pub kind: EventKind,
     /// When it happened, in seconds since 1970.
     pub moment: u64,
     /// What belongs to it.
     pub octets: Vec<u8>,
 }
 
-/// The next frame of an input; none at its end. Refused if the input ends within the frame, a read fails, there is no memory, or the frame is
-/// longer than any that is wanted.
+/// The next frame of an input; none exactly where nothing is left of it. Refused if the input ends within the frame, a read fails, there is no
+/// memory, or the frame is of no kind, or longer than any that is wanted.
 #[tactic(auto, using(crate::proofs::FrameFacts::event_read))]
 pub fn read_event<R: Read>(alloc: Global, input: &mut R) -> io::Result<Option<Event>>
     ensures { IfOk result (ReadsEvent (R.remaining input.old) (R.remaining input.new)) }
@@ -42,16 +58,42 @@ pub fn read_event<R: Read>(alloc: Global, input: &mut R) -> io::Result<Option<Ev
 }
 
 /// The kind of the next frame; none at the end of the input.
-#[tactic(auto, using(crate::proofs::FrameFacts::kind_read))]
-fn read_kind<R: Read>(input: &mut R) -> io::Result<Option<u8>>
+fn read_kind<R: Read>(input: &mut R) -> io::Result<Option<EventKind>>
     ensures { IfOk result (ReadsKind (R.remaining input.old) (R.remaining input.new)) }
 {
-    let mut kind = [0u8; 1];
-    match input.read_exact(&mut kind) {
-        Ok(()) => Ok(Some(kind[0])),
-        Err(e) if e.kind() == ErrorKind::UnexpectedEof => Ok(None),
-        Err(e) => Err(e),
+    let Some(octet) = read_octet(input)? else {
+        return Ok(None);
+    };
+    match kind_of(octet) {
+        Some(kind) => Ok(Some(kind)),
+        None => Err(io::Error::from(ErrorKind::InvalidData)),
     }
+}
+
+/// The kind that an octet says, if it says one.
+fn kind_of(octet: u8) -> Option<EventKind>
+    ensures { result ≡ kind_of octet }
+{
+    match octet {
+        b'a' => Some(EventKind::MayAsk),
+        b'm' => Some(EventKind::Message),
+        b'f' => Some(EventKind::Failure),
+        b'n' => Some(EventKind::Notification),
+        b't' => Some(EventKind::Time),
+        _ => None,
+    }
+}
+
+/// The next octet; none at the end of the input.
+#[tactic(auto, using(crate::proofs::FrameFacts::octet_read))]
+fn read_octet<R: Read>(input: &mut R) -> io::Result<Option<u8>>
+    ensures { IfOk result (ReadsOctet (R.remaining input.old) (R.remaining input.new)) }
+{
+    let mut octet = [0u8; 1];
+    if read_some(input, &mut octet)? == 0 {
+        return Ok(None);
+    }
+    Ok(Some(octet[0]))
 }
 
 /// The moment of a frame.

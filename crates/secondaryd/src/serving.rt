@@ -2,7 +2,7 @@
 
 use crate::events::{NoMemory, Progress};
 use crate::following::Following;
-use crate::frames::{Event, read_event, write_frame};
+use crate::frames::{Event, EventKind, read_event, write_frame};
 use crate::zone_text::zone_text;
 use std::alloc::{AllocError, Global};
 use std::io;
@@ -65,14 +65,13 @@ fn answer<W: Write>(
     output: &mut W,
 ) -> Result<(), Stop> {
     match event.kind {
-        b'a' => ask(alloc, following, event, output),
-        b'm' => take(alloc, following, event, output),
-        b'f' => {
+        EventKind::MayAsk => ask(alloc, following, event, output),
+        EventKind::Message => take(alloc, following, event, output),
+        EventKind::Failure => {
             following.fail(event.moment);
             Ok(())
         }
-        b't' => Ok(()),
-        b'n' => {
+        EventKind::Notification => {
             if let Some(response) = following.notify(
                 alloc,
                 event.octets.as_slice(),
@@ -82,7 +81,7 @@ fn answer<W: Write>(
             }
             Ok(())
         }
-        _ => Err(Stop::Failed(ErrorKind::InvalidData)),
+        EventKind::Time => Ok(()),
     }
 }
 
