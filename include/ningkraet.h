@@ -71,7 +71,7 @@ extern "C" {
 /* How a call ended. */
 enum {
     NK_DONE = 0,          /* it is done */
-    NK_IGNORED = 1,       /* the message gets no answer: fewer than 12 octets, or itself a response (RFC 1035 section 4.1.1) */
+    NK_IGNORED = 1,       /* the message gets no answer: fewer than 12 octets, or itself a response (RFC 1035 section 4.1.1); or isn't one that is read */
     NK_CLOSED = 2,        /* there are no zones: none were made, or they were freed */
     NK_BAD_NAME = 3,      /* the origin isn't the text of a name */
     NK_BAD_TEXT = 4,      /* the text isn't that of a zone file, or its records make no zone; or it isn't that of a file of keys */
@@ -96,7 +96,10 @@ enum {
     NK_NO_KEY = 33,       /* there is no key of this name */
     NK_UNKEYED = 34,      /* the message has no TSIG and asks for no transfer: nk_zones_answer or nk_zones_answer_client answers it */
     NK_TRANSFER = 35,     /* the messages of a zone follow */
-    NK_NO_TRANSFER = 36   /* there is no transfer: none was begun, or it came to its end, or was freed */
+    NK_NO_TRANSFER = 36,  /* there is no transfer: none was begun, or it came to its end, or was freed */
+    NK_WANTS_FILES = 40,  /* files are included of which there is no text yet: nk_files_next hands out their names */
+    NK_NO_FILE = 41,      /* no file is wanted */
+    NK_BAD_FILE_NAME = 42 /* the name of a file isn't UTF-8 */
 };
 
 /* How a query came; and how many octets a response has at most over each. */
@@ -129,6 +132,16 @@ typedef struct nk_plan {
 } nk_plan;
 
 #define NK_PLAN_NONE {0}
+
+/* Texts of files by their names, or none. The rules for an nk_zones hold for them too. */
+typedef struct nk_files {
+    void *kept;
+} nk_files;
+
+#define NK_FILES_NONE {0}
+
+/* Why a file can't be read: there is none, a folder has its name, or a pipe or a device; you may not read it; or another reason. */
+enum { NK_LACKS_FILE = 0, NK_LACKS_FOLDER = 1, NK_LACKS_STREAM = 2, NK_LACKS_PERMISSION = 3, NK_LACKS_OTHER = 4 };
 
 /* How a zone denies what it doesn't have: by NSEC, by NSEC3, or by NSEC3 with opt-out (RFC 5155 section 6). */
 enum { NK_NSEC = 0, NK_NSEC3 = 1, NK_NSEC3_OPT_OUT = 2 };
@@ -312,6 +325,19 @@ uint32_t nk_transfer_next(nk_transfer *transfer, uint64_t now, uint8_t *buffer, 
 /* Frees the transfer, if there is one. Afterwards there is none. */
 void nk_transfer_free(nk_transfer *transfer);
 
+/* Writes the NOTIFY that tells a secondary of the zone with this origin that it has changed (RFC 1996 section 3), to be sent to the secondary by
+ * UDP. It is at the beginning of the buffer, and `written` has its length, at most 271 octets; after NK_NO_ROOM `written` says how many octets are
+ * needed, and with any other code but NK_DONE it is 0. The lowest 16 bits of `id` are its identifier, which nobody should be able to guess. It
+ * is sent again until a response comes: RFC 1996 section 3.6 recommends every 60 seconds, five times.
+ * NK_DONE, NK_BAD_NAME, NK_NO_ROOM or NK_NO_MEMORY. */
+uint32_t nk_notify_write(uint32_t id, const uint8_t *origin, size_t origin_length, uint8_t *buffer, size_t buffer_length, size_t *written);
+
+/* Reads the response to a NOTIFY: its identifier, and the lowest four bits of its response code, which are 0 if the NOTIFY was taken. If the
+ * message is no such response, the code is NK_IGNORED, and both numbers stay as they were. Whether it comes from the secondary is the caller's
+ * to see (RFC 1996 section 4.8).
+ * NK_DONE or NK_IGNORED. */
+uint32_t nk_notify_read(const uint8_t *message, size_t message_length, uint32_t *id, uint32_t *code);
+
 /* Plans the zone with this origin, to be signed by keys that the library never sees: what the zone will have but for the signatures. It gets
  * the DNSKEY records of these keys, NSEC or NSEC3 records and the next serial (RFC 4035 section 2). Signatures, denials and DNSKEY records
  * that it has are left out, so a signed zone can be signed again. The plan replaces what is there, which is freed. No zone changes.
@@ -347,6 +373,34 @@ uint32_t nk_plan_finish(nk_plan *plan, nk_zones *zones);
 
 /* Frees the plan, if there is one. Afterwards there is none. */
 void nk_plan_free(nk_plan *plan);
+
+/* Keeps the text of the file with this name, copied, in place of what is kept of it. The first call makes an nk_files that has none.
+ * NK_DONE, NK_BAD_FILE_NAME or NK_NO_MEMORY; after any code but NK_DONE what is kept is as it was. */
+uint32_t nk_files_put(nk_files *files, const uint8_t *name, size_t name_length, const uint8_t *text, size_t text_length);
+
+/* Keeps that the file with this name can't be read, in place of what is kept of it: an $INCLUDE of it is a fault, which says why: by
+ * NK_LACKS_FILE and so on; any other number is another reason. The codes are those of nk_files_put. */
+uint32_t nk_files_lack(nk_files *files, const uint8_t *name, size_t name_length, uint32_t why);
+
+/* Hands out the next name of those that nk_zones_load_files wants: it is at the beginning of the buffer, and `written` has its length. Each is
+ * handed out once. After NK_NO_ROOM `written` says how many octets are needed, and the same is handed out again; with NK_NO_FILE it is 0.
+ * NK_DONE, NK_NO_ROOM or NK_NO_FILE. */
+uint32_t nk_files_next(nk_files *files, uint8_t *buffer, size_t buffer_length, size_t *written);
+
+/* Frees the texts, if there are any. Afterwards there are none. */
+void nk_files_free(nk_files *files);
+
+/* As nk_zones_load, of a file that may include others ($INCLUDE) and may have $GENERATE. `file` is its name: before what is told about it, and
+ * where the names begin of those that it includes, which are relative to the folder of the file in which they stand ("." and ".." are
+ * resolved by the names alone). With NK_WANTS_FILES nothing changed: hand out the names of the files that are wanted (nk_files_next), put the
+ * text of each, or say that it can't be read, and make the same call again, at most ten times in all, since files are included at most nine
+ * within one another. One nk_files may serve several zones; a file that changes is put again.
+ * The buffer gets the warnings, or after NK_BAD_TEXT the first 20 faults, as nk_zones_load tells them, each with the name of its file and by
+ * which entries that is included; `written` is 0 with any other code. What is kept of files stays.
+ * NK_DONE, NK_WANTS_FILES, NK_BAD_TEXT, NK_BAD_NAME, NK_BAD_FILE_NAME, NK_NO_MEMORY or NK_CLOSED. */
+uint32_t nk_zones_load_files(nk_zones *zones, nk_files *files, const uint8_t *origin, size_t origin_length, const uint8_t *file,
+                             size_t file_length, const uint8_t *text, size_t text_length, uint8_t *buffer, size_t buffer_length,
+                             size_t *written);
 
 #ifdef __cplusplus
 }

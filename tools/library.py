@@ -66,11 +66,12 @@ WORDS = {
     "&mut AccessHandle": "&mut {}",
     "&mut TransferHandle": "&mut {}",
     "&mut PlanHandle": "&mut {}",
+    "&mut FilesHandle": "&mut {}",
     "&Signing": "&how",
     "&[u8]": "&text",
     "&mut [u8]": "&mut room",
     "&mut usize": "&mut written",
-    "&mut u32": "&mut serial",
+    "&mut u32": "&mut {}",
     "&ServerSettings<'_>": "&settings",
     "&ClientMessage<'_>": "&message",
     "&mut SummaryNumbers": "&mut summary",
@@ -80,14 +81,15 @@ PROGRAM = """
 fn main(rt: HostRuntime) -> std::process::ExitCode {{
     let alloc = rt.alloc();
     let (mut zones, mut other, mut plan) = (DatabaseHandle::empty(alloc), DatabaseHandle::empty(alloc), PlanHandle::empty(alloc));
-    let (mut access, mut transfer) = (AccessHandle::empty(alloc), TransferHandle::empty(alloc));
+    let (mut access, mut transfer, mut files) = (AccessHandle::empty(alloc), TransferHandle::empty(alloc), FilesHandle::empty(alloc));
     let how = Signing {{ inception: 0, expiration: 0, jitter: 0, key_ttl: 0, denial: 0, iterations: 0, asks_parent: 0 }};
-    let (text, mut room, mut written, mut serial) = ([0u8; 8], [0u8; 8], 0usize, 0u32);
+    let (text, mut room, mut written) = ([0u8; 8], [0u8; 8], 0usize);
+    let (mut serial, mut number, mut id, mut code) = (0u32, 0u32, 0u32, 0u32);
     let settings = ServerSettings {{ nsid: &text, secrets: &text, cookies_required: 0 }};
     let message = ClientMessage {{ octets: &text, address: &text, moment: 0, limit: 512, transport: 0 }};
     let mut summary = SummaryNumbers {{ code: 0, kind: 0, truncated: 0, cookie: 0, origin_labels: 0 }};
-    let mut code = 0u32;
-{calls}    std::process::ExitCode::from(code.min(9) as u8)
+    let mut worst = 0u32;
+{calls}    std::process::ExitCode::from(worst.min(9) as u8)
 }}
 """
 
@@ -99,7 +101,7 @@ def as_program(name):
         named = [it.split(":", 1) for it in parameters.split(",") if it.strip()]
         words = [WORDS.get(kind.strip(), "0").format(name.strip()) for name, kind in named]
         call = f"{export}({', '.join(words)})"
-        calls += f"    code = code.max({call});\n" if result else f"    {call};\n"
+        calls += f"    worst = worst.max({call});\n" if result else f"    {call};\n"
     return text + PROGRAM.format(calls=calls)
 
 

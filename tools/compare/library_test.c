@@ -145,6 +145,56 @@ static int cookies(void) {
     return 0;
 }
 
+/* A file that includes others, whose texts are given as they are wanted. */
+static uint32_t load_files(nk_zones *zones, nk_files *files, const char *file, size_t *written) {
+    static const char *const own = "$TTL 60\n@ SOA ns host 7 2 3 4 5\n@ NS ns\n$INCLUDE parts/hosts\n$INCLUDE ../keys\n";
+    return nk_zones_load_files(zones, files, (const uint8_t *)ORIGIN, strlen(ORIGIN), (const uint8_t *)file, strlen(file), (const uint8_t *)own, strlen(own), room, sizeof room, written);
+}
+
+static uint32_t put(nk_files *files, const char *name, const char *its) { return nk_files_put(files, (const uint8_t *)name, strlen(name), (const uint8_t *)its, strlen(its)); }
+
+static int included(void) {
+    nk_zones zones = NK_ZONES_NONE;
+    nk_files files = NK_FILES_NONE;
+    size_t written = 9;
+    uint32_t number, code;
+    memset(room, 85, sizeof room);
+    IS(load_files(&zones, &files, "zones/a", &written) == NK_CLOSED && !written && is_untouched());
+    IS(nk_files_next(&files, room, sizeof room, &written) == NK_NO_FILE && !written && nk_zones_new(&zones) == NK_DONE);
+    IS(put(&files, "\xff", "") == NK_BAD_FILE_NAME && load_files(&zones, &files, "\xff", &written) == NK_BAD_FILE_NAME && !written);
+    for (long nth = 1; (left = nth, code = load_files(&zones, &files, "zones/a", &written), left = -1, code) != NK_WANTS_FILES; nth++) IS(code == NK_NO_MEMORY && !written);
+    IS(!written && is_untouched() && serial(&zones, ORIGIN, &number) == NK_NO_ZONE);
+    IS(nk_files_next(&files, room, 16, &written) == NK_NO_ROOM && written == 17 && is_untouched());
+    IS(nk_files_next(&files, room, sizeof room, &written) == NK_DONE && written == 17 && !memcmp(room, "zones/parts/hosts", 17));
+    IS(nk_files_next(&files, room, sizeof room, &written) == NK_DONE && written == 4 && !memcmp(room, "keys", 4));
+    IS(nk_files_next(&files, room, sizeof room, &written) == NK_NO_FILE && !written);
+    for (long nth = 1; (left = nth, code = put(&files, "zones/parts/hosts", "ns A 192.0.2.1\nwww A 192.0.2.4\n"), left = -1, code) != NK_DONE; nth++) IS(code == NK_NO_MEMORY);
+    IS(nk_files_lack(&files, (const uint8_t *)"keys", 4, NK_LACKS_PERMISSION) == NK_DONE && load_files(&zones, &files, "zones/a", &written) == NK_BAD_TEXT);
+    IS(written > 10 && !memcmp(room, "zones/a:5:", 10) && serial(&zones, ORIGIN, &number) == NK_NO_ZONE && put(&files, "keys", "") == NK_DONE);
+    for (long nth = 1; (left = nth, code = load_files(&zones, &files, "zones/a", &written), left = -1, code) != NK_DONE; nth++) IS(code == NK_NO_MEMORY && !written);
+    IS(!written && answer(&zones, "www", 1, NK_UDP, 1232, &written) == NK_DONE && room[7] == 1);
+    nk_files_free(&files), nk_files_free(&files), nk_zones_free(&zones);
+    return 0;
+}
+
+static uint32_t notify(uint32_t id, const char *origin, size_t space, size_t *written) { return nk_notify_write(id, (const uint8_t *)origin, strlen(origin), room, space, written); }
+
+/* A NOTIFY, and what is read as its response. */
+static int notified(void) {
+    static const uint8_t wanted[] = {0xab, 0xcd, 36, 0, 0, 1, 0, 0, 0, 0, 0, 0, 7, 'e', 'x', 'a', 'm', 'p', 'l', 'e', 0, 0, 6, 0, 1};
+    size_t written = 9;
+    uint32_t id = 8, number = 8, code;
+    memset(room, 85, sizeof room);
+    IS(notify(1, "a..b", sizeof room, &written) == NK_BAD_NAME && !written && is_untouched());
+    IS(notify(1, "Example", sizeof wanted - 1, &written) == NK_NO_ROOM && written == sizeof wanted && is_untouched());
+    for (long nth = 1; (left = nth, code = notify(0x1abcd, "Example.", sizeof room, &written), left = -1, code) != NK_DONE; nth++) IS(code == NK_NO_MEMORY && !written);
+    IS(written == sizeof wanted && !memcmp(room, wanted, written));
+    IS(nk_notify_read(room, written, &id, &number) == NK_IGNORED && id == 8 && number == 8);
+    room[2] |= 128, room[3] = 5;
+    IS(nk_notify_read(room, 11, &id, &number) == NK_IGNORED && nk_notify_read(room, written, &id, &number) == NK_DONE && id == 0xabcd && number == 5);
+    return 0;
+}
+
 /* A key of ECDSA with P-256, of which the library sees the data of its DNSKEY record alone, behind their length. */
 static const uint8_t key[70] = {0, 68, 1, 1, 3, 13, 7};
 static const nk_signing by_nsec = {.inception = 1000, .expiration = 2000, .key_ttl = 60}, by_nsec3 = {.inception = 1000, .expiration = 2000, .denial = NK_NSEC3_OPT_OUT, .iterations = 1};
@@ -355,7 +405,7 @@ static int datagrams(nk_zones *zones, long count) {
 int main(int argc, char **argv) {
     nk_zones zones = NK_ZONES_NONE;
     memset(before, 85, sizeof before);
-    int status = refusals() || plan_refusals() || transfers() || cookies() || failures(&zones) || datagrams(&zones, argc > 1 ? atol(argv[1]) : 0) || transfer_failures(&zones) || plan_failures(&zones);
+    int status = refusals() || included() || notified() || plan_refusals() || transfers() || cookies() || failures(&zones) || datagrams(&zones, argc > 1 ? atol(argv[1]) : 0) || transfer_failures(&zones) || plan_failures(&zones);
     nk_zones_free(&zones);
     return status;
 }

@@ -16,6 +16,8 @@ import sources
 HEADER, EXPORTS, CODES = "include/ningkraet.h", "crates/ningkraet/src/lib.rt", "crates/zone_database/src/outcome.rt"
 # The files of the codes that calls on plans and on transfers have besides, and that of how a zone is to be signed.
 PLAN_CODES, TRANSFER_CODES, SIGNING = "crates/plan_calls/src/outcome.rt", "crates/transfer_calls/src/outcome.rt", "crates/plan_calls/src/signing.rt"
+# Those of calls about files, and why a file can't be read.
+FILE_CODES, LACKS = "crates/file_calls/src/outcome.rt", {"Absent": "FILE", "Folder": "FOLDER", "Stream": "STREAM", "Denied": "PERMISSION", "Unreadable": "OTHER"}
 CLIENT, SUMMARY = "crates/arrival_calls/src/client.rt", "crates/arrival_calls/src/summary_numbers.rt"
 
 # What a parameter is in C. The allocator is none there, since it takes no octets.
@@ -25,6 +27,7 @@ KINDS = {
     "&mut AccessHandle": ["nk_access *"],
     "&mut TransferHandle": ["nk_transfer *"],
     "&mut PlanHandle": ["nk_plan *"],
+    "&mut FilesHandle": ["nk_files *"],
     "&Signing": ["const nk_signing *"],
     "&[u8]": ["const uint8_t *", "size_t"],
     "&mut [u8]": ["uint8_t *", "size_t"],
@@ -64,7 +67,7 @@ def in_capitals(name):
 
 def told():
     """The codes of the library by their names in C."""
-    codes = [it for file in (CODES, TRANSFER_CODES) for it in re.findall(r"Outcome::(\w+) => (\d+),", sources.read(file))]
+    codes = [it for file in (CODES, TRANSFER_CODES, FILE_CODES) for it in re.findall(r"Outcome::(\w+) => (\d+),", sources.read(file))]
     of_plans = re.findall(r"^const (\w+): u32 = (\d+);", sources.read(PLAN_CODES), re.M)
     return {in_capitals(name): int(code) for name, code in codes} | {f"NK_{name}": int(code) for name, code in of_plans}
 
@@ -112,6 +115,10 @@ def differences(text):
         there, here = numbered(text, SUMMARY, kind, prefix)
         if there != here:
             yield f"the header has the numbers {there}, and the library {here}"
+    here = {f"NK_LACKS_{LACKS[name]}": number for number, name in enumerate(re.findall(r"(?:\d+|_) => Lack::(\w+),", sources.read(FILE_CODES)))}
+    there = {name: int(number) for name, number in re.findall(r"(NK_LACKS_\w+) = (\d+)", text)}
+    if there != here:
+        yield f"the header has the numbers {there}, and the library {here}"
     interface = re.search(r"^#define NK_INTERFACE (\d+)$", text, re.M).group(1)
     if not re.search(r"fn nk_interface\(\) -> u32\n    ensures \{ result ≡ " + interface + r" \}", sources.read(EXPORTS)):
         yield f"NK_INTERFACE is {interface} in the header, and another in the library"
