@@ -4,6 +4,7 @@
 #include <ningkraet.h>
 #include <stddef.h>
 #include <sys/socket.h>
+#include <sys/stat.h>
 
 enum { SECRET = 16 };              /* octets of a secret */
 
@@ -13,16 +14,16 @@ struct address {
     char text[64];                 /* as "192.0.2.1 port 53" */
 };
 
-/* The two values of a line: the origin of a zone and its file, or the name of the key that it is sent under; "" sends it to anybody. */
-struct pair {
-    char *origin, *of;
+/* The values of lines: the origin of a zone and its file, or the name of the key that it is sent under ("" sends it to anybody); or a folder. */
+struct pairs {
+    struct pair { char *name, *of; } *list;
+    size_t count;
 };
 
 struct config {
     struct address *listen;        /* the addresses at which queries are answered, by UDP and TCP */
-    struct pair *zones, *transfers;
-    char **folders;                /* each file NAME.zone there is the zone NAME */
-    size_t listen_count, zone_count, transfer_count, folder_count, keys_length;
+    struct pairs zones, transfers, folders;   /* (each file NAME.zone of a folder is the zone NAME) */
+    size_t listen_count, keys_length;
     char *user, *chroot, *control, *log, *query_log, *nsid, *keys;   /* NULL where there is none */
     uint8_t *keys_text;            /* the octets of the file of keys, NULL without one */
     unsigned workers;              /* threads that answer; 0: one for each processor */
@@ -46,5 +47,6 @@ void config_free(struct config *config);
 /* Makes the keys and who may have zones, of a configuration that has either. Returns 0, or -1 once it is printed on standard error why not. */
 int config_access(const struct config *config, nk_access *access);
 
-/* The octets of a file, or NULL with errno. */
-uint8_t *octets_of(const char *path, size_t *length);
+/* The octets of a file, of which `read_as` tells how many there are; or NULL with errno, and `read_as` all 0. What is no file is refused: a
+ * folder by EISDIR, a pipe or a device by ESPIPE. */
+uint8_t *octets_of(const char *path, struct stat *read_as);

@@ -2,7 +2,6 @@
 #include "control.h"
 
 #include <errno.h>
-#include <poll.h>
 #include <stdio.h>
 #include <string.h>
 #include <sys/socket.h>
@@ -13,7 +12,7 @@
 #include "log.h"
 #include "zones.h"
 
-enum { COMMAND = 8192, REPLY = 1 << 22, PATIENCE = 2000 };   /* PATIENCE: milliseconds that a command may take to come, and its reply to go */
+enum { COMMAND = 8192, REPLY = 1 << 22, PATIENCE = 2 };   /* PATIENCE: seconds in which more of a command has to come, and of its reply to go */
 
 int control_listen(const char *path) {
     struct sockaddr_un address = {.sun_family = AF_UNIX};
@@ -33,12 +32,8 @@ int control_listen(const char *path) {
 /* Reads the line of a command. Returns whether it came whole. */
 static int read_line(int fd, char *line) {
     size_t have = 0;
-    struct pollfd waiting = {fd, POLLIN, 0};
-    while (have < COMMAND - 1 && poll(&waiting, 1, PATIENCE) > 0) {
-        ssize_t more = read(fd, line + have, COMMAND - 1 - have);
-        if (more <= 0) return 0;
-        have += more;
-        char *end = memchr(line, '\n', have);
+    for (ssize_t more; have < COMMAND - 1 && (more = read(fd, line + have, COMMAND - 1 - have)) > 0; have += more) {
+        char *end = memchr(line + have, '\n', more);
         if (!end) continue;
         *end = 0;
         return 1;
@@ -47,13 +42,7 @@ static int read_line(int fd, char *line) {
 }
 
 static void write_all(int fd, const char *text, size_t length) {
-    struct pollfd waiting = {fd, POLLOUT, 0};
-    while (length && poll(&waiting, 1, PATIENCE) > 0) {
-        ssize_t sent = send(fd, text, length, MSG_NOSIGNAL);
-        if (sent <= 0) return;
-        text += sent;
-        length -= sent;
-    }
+    for (ssize_t sent; length && (sent = send(fd, text, length, MSG_NOSIGNAL)) > 0; length -= sent) text += sent;
 }
 
 /* Writes the reply to a command: its first word is ok or error. */
@@ -88,7 +77,9 @@ static size_t reply_to(char *line, char *reply, struct worker *workers, size_t w
 
 int control_take(int listener, struct worker *workers, size_t worker_count) {
     static char line[COMMAND], reply[REPLY];   /* where memory runs out, there are commands still */
-    int is_over = 0, fd = accept4(listener, NULL, NULL, SOCK_CLOEXEC | SOCK_NONBLOCK);
+    const struct timeval patience = {PATIENCE, 0};
+    int is_over = 0, fd = accept4(listener, NULL, NULL, SOCK_CLOEXEC);
+    for (int i = 0; i < 2; i++) setsockopt(fd, SOL_SOCKET, i ? SO_RCVTIMEO : SO_SNDTIMEO, &patience, sizeof patience);
     if (fd >= 0 && read_line(fd, line)) write_all(fd, reply, reply_to(line, reply, workers, worker_count, &is_over));
     if (fd >= 0) close(fd);
     return is_over;

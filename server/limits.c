@@ -5,7 +5,6 @@
 #include "limits.h"
 
 #include <netinet/in.h>
-#include <stdatomic.h>
 #include <stdlib.h>
 #include <string.h>
 #include <sys/random.h>
@@ -15,12 +14,8 @@
 
 enum { TALLIES = 1 << 16, BUCKETS = 1 << 20 };
 
-struct tally {
-    atomic_uint connections;
-};
-
 static const struct config *config;
-static struct tally *tallies;
+static atomic_uint *tallies;           /* connections */
 static _Atomic uint64_t *buckets;      /* 32 bits of the hash, 16 of the second, 16 of the responses in it */
 static atomic_uint connections;
 static uint64_t key[2];
@@ -74,14 +69,17 @@ int limits_begin(const struct config *given) {
     return tallies && (buckets || !config->rate_limit) && getrandom(key, sizeof key, 0) == sizeof key ? 0 : log_line("out of memory");
 }
 
+size_t name_end(const uint8_t *query, size_t length) {
+    size_t at = 12;
+    while (at < length && query[at] && query[at] < 64) at += 1 + query[at];
+    return at < length ? at : length;
+}
+
 /* The question's name in lower case, of which a name error counts without its first label: names that are made up share what is above them. */
 static size_t put_name(uint8_t *to, const uint8_t *query, size_t length, uint32_t kind) {
-    size_t at = 12, made = 0;
-    if (kind == NK_NAME_ERROR && at < length && query[at] < 64) at += 1 + query[at];
-    while (at < length && query[at] && query[at] < 64 && made < 255) {
-        uint8_t c = query[at++];
-        to[made++] = c >= 'A' && c <= 'Z' ? c + 32 : c;
-    }
+    size_t at = 12, end = name_end(query, length), made = 0;
+    if (kind == NK_NAME_ERROR && at < end) at += 1 + query[at];
+    for (; at < end && made < 255; at++) to[made++] = query[at] >= 'A' && query[at] <= 'Z' ? query[at] + 32 : query[at];
     return made;
 }
 
@@ -104,25 +102,25 @@ enum verdict limits_take(const struct sockaddr *client, const nk_summary *summar
     return config->rate_slip && (responses - config->rate_limit) % config->rate_slip == 0 ? CUT : WITHHOLD;
 }
 
-struct tally *limits_enter(const struct sockaddr *client) {
+atomic_uint *limits_enter(const struct sockaddr *client) {
     uint8_t octets[9];
-    struct tally *tally = &tallies[hash_of(octets, put_prefix(octets, client, 32, 64)) % TALLIES];
-    if (atomic_fetch_add(&tally->connections, 1) < config->tcp_client_connections) {
+    atomic_uint *tally = &tallies[hash_of(octets, put_prefix(octets, client, 32, 64)) % TALLIES];
+    if (atomic_fetch_add(tally, 1) < config->tcp_client_connections) {
         atomic_fetch_add(&connections, 1);
         return tally;
     }
-    atomic_fetch_sub(&tally->connections, 1);
+    atomic_fetch_sub(tally, 1);
     return NULL;
 }
 
-void limits_leave(struct tally *tally) {
-    atomic_fetch_sub(&tally->connections, 1);
+void limits_leave(atomic_uint *tally) {
+    atomic_fetch_sub(tally, 1);
     atomic_fetch_sub(&connections, 1);
 }
 
 int limits_room(void) { return atomic_load(&connections) <= config->tcp_connections; }
 
 void limits_free(void) {
-    free(tallies);
+    free((void *)tallies);
     free((void *)buckets);
 }

@@ -53,9 +53,9 @@ int log_line(const char *format, ...) {
 
 /* Writes the name of a question as text, each octet outside of letters, digits, - and _ as \\DDD, so that it is JSON too. */
 static size_t put_name(char *text, const uint8_t *query, size_t query_length, size_t *behind) {
-    size_t length = 0, at = 12;
-    while (at < query_length && query[at] && query[at] < 64 && at + query[at] < query_length) {
-        for (uint8_t left = query[at++]; left; left--, at++) {
+    size_t length = 0, at = 12, end = name_end(query, query_length);
+    while (at < end) {
+        for (uint8_t left = query[at++]; left && at < end; left--, at++) {
             int c = query[at];
             int is_plain = (c >= 'a' && c <= 'z') || (c >= 'A' && c <= 'Z') || (c >= '0' && c <= '9') || c == '-' || c == '_' || c == '*';
             length += sprintf(text + length, is_plain ? "%c" : "\\\\%03d", c);

@@ -27,21 +27,10 @@ int main(int argc, char **argv) {
         if (more < 0 || (size_t)more >= sizeof line - length) return told("ningkraetctl", "the command is too long");
         length += more;
     }
-    if (write(fd, line, length) != (ssize_t)length) return told(path, strerror(errno));
-    char reply[65536];
-    size_t have = 0;
-    int is_ok = -1;
-    for (ssize_t more; (more = read(fd, reply + have, sizeof reply - have)) > 0;) {
-        have += more;
-        if (is_ok < 0) {
-            char *end = memchr(reply, '\n', have);
-            if (!end) continue;
-            is_ok = end - reply == 2 && !memcmp(reply, "ok", 2);
-            have -= end + 1 - reply;
-            memmove(reply, end + 1, have);
-        }
-        fwrite(reply, 1, have, is_ok ? stdout : stderr);
-        have = 0;
-    }
-    return is_ok < 0 ? told("ningkraetctl", "the server gave no reply") : !is_ok;
+    FILE *reply = fdopen(fd, "r");
+    if (!reply || write(fd, line, length) != (ssize_t)length) return told(path, strerror(errno));
+    if (!fgets(line, sizeof line, reply)) return told("ningkraetctl", "the server gave no reply");
+    int is_ok = !strcmp(line, "ok\n");
+    while (fgets(line, sizeof line, reply)) fputs(line, is_ok ? stdout : stderr);
+    return !is_ok;
 }

@@ -80,7 +80,6 @@ static int make_workers(void) {
 
 static void renew(int all) {
     sockets_notify("RELOADING=1");
-    zones_folders(watch);   /* before they are read, so that no change goes unseen */
     size_t faults = zones_renew(all);
     log_line("zones read: %zu, of which %zu have a file that is bad", zones_count(), faults);
     sockets_notify("READY=1");
@@ -103,10 +102,7 @@ static void manage(int signals, int control) {
             log_open(config.log, config.query_log, config.query_log_every);
             renew(0);
         }
-        if (polled[CONTROL].revents) {
-            if (control_take(control, workers, worker_count)) return;
-            zones_folders(watch);   /* a command may have added some */
-        }
+        if (polled[CONTROL].revents && control_take(control, workers, worker_count)) return;
         if (polled[FILES].revents) {
             char events[4096];
             while (read(watcher, events, sizeof events) > 0) {}
@@ -123,7 +119,7 @@ static int serve(const sigset_t *handled) {
     if (config.control && control < 0) return 2;
     if (config.control && config.user && getpwnam(config.user) && chown(config.control, getpwnam(config.user)->pw_uid, -1)) log_line("%s: %s", config.control, strerror(errno));
     if (limits_begin(&config) || drop_privileges()) return 2;
-    if (log_open(config.log, config.query_log, config.query_log_every) || zones_begin(&config)) return 2;
+    if (log_open(config.log, config.query_log, config.query_log_every) || zones_begin(&config, watch)) return 2;
     if (config.watch && (watcher = inotify_init1(IN_NONBLOCK | IN_CLOEXEC)) < 0) log_line("files aren't watched: %s", strerror(errno));
     renew(1);
     int signals = signalfd(-1, handled, SFD_CLOEXEC);
@@ -147,7 +143,7 @@ static int serve(const sigset_t *handled) {
 
 /* Reads all zones, and says of each that is bad what is wrong. */
 static int test(void) {
-    size_t faults = zones_begin(&config) ? 1 : zones_renew(1);
+    size_t faults = zones_begin(&config, watch) ? 1 : zones_renew(1);
     printf("%zu zones, of which %zu have a file that is bad\n", zones_count(), faults);
     zones_free();
     return faults ? 1 : 0;

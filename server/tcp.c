@@ -14,7 +14,7 @@
 #include "log.h"
 
 enum {
-    FIRST = 512,          /* octets of a new connection's buffer, which grows with what is sent */
+    FIRST = 512,          /* octets of a connection's buffer once something comes; it grows with what is sent */
     FRAME = 2 + 65535,    /* octets of a message with its length, at most */
     TURN = 1 << 16,       /* octets of responses to one connection before the next one has its turn */
     ACCEPTED = 64,        /* connections that are taken in one turn */
@@ -25,7 +25,7 @@ struct connection {
     struct source source;
     TAILQ_ENTRY(connection) at, at_busy;
     struct queue *list;
-    struct tally *tally;
+    atomic_uint *tally;
     struct sockaddr_storage client;
     uint64_t moved;           /* the microsecond in which a whole query came, or octets went out: no client holds it by octets alone */
     uint32_t events;          /* those that the kernel is asked for */
@@ -93,23 +93,20 @@ void tcp_accept(struct worker *worker, struct source *listener) {
         if (is_short && evict(worker, NULL)) continue;
         if (is_short) turn_away(worker, listener);
         if (fd < 0) return;
-        struct tally *tally = limits_enter((struct sockaddr *)&client);
+        atomic_uint *tally = limits_enter((struct sockaddr *)&client);
         if (!tally) {
             count(&worker->counters.tcp_refused, 1);
             close(fd);
             continue;
         }
         struct connection *c = calloc(1, sizeof *c);
-        uint8_t *in = malloc(FIRST);
-        if (!c || !in) {
+        if (!c) {
             count(&worker->counters.no_memory, 1);
             limits_leave(tally);
             close(fd);
-            free(c);
-            free(in);
             return;
         }
-        *c = (struct connection){.source = {SOURCE_CONNECTION, fd}, .client = client, .tally = tally, .moved = microseconds(), .events = EPOLLIN, .in = in, .size = FIRST};
+        *c = (struct connection){.source = {SOURCE_CONNECTION, fd}, .client = client, .tally = tally, .moved = microseconds(), .events = EPOLLIN};
         enter(c, &worker->silent);
         setsockopt(fd, IPPROTO_TCP, TCP_NODELAY, &one, sizeof one);
         count(&worker->counters.tcp_accepted, 1);

@@ -62,9 +62,7 @@ static void keep_address(struct msghdr *message) {
 
 /* Cuts a response to its header and question, with TC, so that an honest client asks again by TCP. */
 static size_t cut(uint8_t *response, const uint8_t *query, size_t query_length) {
-    size_t at = 12;
-    while (at < query_length && query[at] && query[at] < 64) at += 1 + query[at];
-    size_t end = at + 5;
+    size_t end = name_end(query, query_length) + 5;
     if (response[5] != 1 || end > query_length) end = 12;
     response[2] |= 2;
     memset(response + 6, 0, 6);

@@ -16,14 +16,21 @@
 
 enum { TOLD = 1 << 16, TRIES = 100 };
 
+struct file {
+    char *path;
+    struct stat read;                 /* what it was when it was read last; all 0 where it couldn't be */
+};
+
 struct zone {
-    char *origin, *path, *fault;      /* the origin in lower case and without its final dot */
-    struct stat read;                 /* what its file was when it was read last */
+    char *origin, *fault;             /* the origin in lower case and without its final dot */
+    struct file file, *included;      /* its file, and those that are read with it ($INCLUDE) */
+    size_t included_count;
     uint32_t serial;
     unsigned is_served : 1, is_of_folder : 1, is_there : 1;
 };
 
 static const struct config *config;
+static void (*watch)(const char *folder);
 static struct zone **zones;           /* by origin */
 static size_t zone_count;
 static nk_zones loaded = NK_ZONES_NONE;
@@ -56,9 +63,13 @@ static struct zone *find(const char *origin) {
     return at < zone_count && !strcmp(zones[at]->origin, origin) ? zones[at] : NULL;
 }
 
+static void drop_included(struct zone *zone) { while (zone->included_count) free(zone->included[--zone->included_count].path); }
+
 static void free_zone(struct zone *zone) {
+    drop_included(zone);
+    free(zone->included);
     free(zone->origin);
-    free(zone->path);
+    free(zone->file.path);
     free(zone->fault);
     free(zone);
 }
@@ -67,7 +78,7 @@ static void free_zone(struct zone *zone) {
 static struct zone *put(const char *origin, const char *path, int is_of_folder) {
     struct zone *zone = calloc(1, sizeof *zone), **grown = realloc(zones, (zone_count + 1) * sizeof *zones);
     if (grown) zones = grown;
-    if (!zone || !grown || !(zone->origin = strdup(origin)) || !(zone->path = strdup(path))) {
+    if (!zone || !grown || !(zone->origin = strdup(origin)) || !(zone->file.path = strdup(path))) {
         if (zone) free_zone(zone);
         log_line("%s: out of memory", origin);
         return NULL;
@@ -82,29 +93,73 @@ static struct zone *put(const char *origin, const char *path, int is_of_folder) 
 static void set_fault(struct zone *zone, const char *text) {
     free(zone->fault);
     zone->fault = text ? strdup(text) : NULL;
-    if (text) log_line("%s (%s): %s%s", zone->path, zone->origin, text, zone->is_served ? "; the zone stays as it was" : "");
+    if (text) log_line("%s: %s%s", zone->origin, text, zone->is_served ? "; the zone stays as it was" : "");
 }
 
-/* Logs the lines that a call of the library told, and cuts the last line feed off. */
-static void log_lines(const struct zone *zone, char *told, size_t length) {
-    told[length] = 0;
-    for (char *rest = told, *line; (line = strsep(&rest, "\n")) && *line;) log_line("%s: %s", zone->path, line);
+/* Logs the lines that a call of the library told, which begin with the name of a file. */
+static void log_lines(char *told) {
+    for (char *line; (line = strsep(&told, "\n")) && *line;) log_line("%s", line);
+}
+
+/* Has changes of a file told, by its folder. */
+static void watch_beside(const char *path) {
+    char folder[4096];
+    const char *slash = strrchr(path, '/');
+    snprintf(folder, sizeof folder, "%.*s", slash ? (int)(slash - path) + (slash == path) : 1, slash ? path : ".");
+    watch(folder);
+}
+
+/* Gives the library the text of a file that a zone includes, or says why there is none. No name with an octet 0 is one of a file. */
+static uint32_t put_file(nk_files *files, struct zone *zone, const char *path, size_t length) {
+    struct file *grown = realloc(zone->included, (zone->included_count + 1) * sizeof *grown);
+    if (grown) zone->included = grown;
+    char *kept = grown ? strdup(path) : NULL;
+    if (!kept) return NK_NO_MEMORY;
+    struct file *file = &grown[zone->included_count++];
+    *file = (struct file){.path = kept};
+    watch_beside(path);
+    errno = ENOENT;
+    uint8_t *text = strlen(path) == length ? octets_of(path, &file->read) : NULL;
+    uint32_t why = errno == ENOENT ? NK_LACKS_FILE : errno == EISDIR ? NK_LACKS_FOLDER : errno == ESPIPE ? NK_LACKS_STREAM : errno == EACCES ? NK_LACKS_PERMISSION : NK_LACKS_OTHER;
+    uint32_t code = text ? nk_files_put(files, (uint8_t *)path, length, text, file->read.st_size) : nk_files_lack(files, (uint8_t *)path, length, why);
+    free(text);
+    return code;
+}
+
+/* Loads a zone from the text of its file and those of the files that are included, which the library names until it has all. */
+static uint32_t load_text(nk_zones *into, struct zone *zone, const uint8_t *text, char *told, size_t *written) {
+    static char path[1 << 17];
+    nk_files files = NK_FILES_NONE;
+    const char *origin = zone->origin, *file = zone->file.path;
+    uint32_t code;
+    size_t length;
+    do {
+        code = nk_zones_load_files(into, &files, (uint8_t *)origin, strlen(origin), (uint8_t *)file, strlen(file), text, zone->file.read.st_size, (uint8_t *)told, TOLD, written);
+        if (code != NK_WANTS_FILES) break;
+        while ((code = nk_files_next(&files, (uint8_t *)path, sizeof path - 1, &length)) == NK_DONE) {
+            path[length] = 0;
+            if ((code = put_file(&files, zone, path, length)) != NK_DONE) break;
+        }
+    } while (code == NK_NO_FILE);
+    nk_files_free(&files);
+    return code;
 }
 
 /* Reads the file of a zone, and loads it. Tells whether it is served now as the file has it. */
 static int load(nk_zones *into, struct zone *zone) {
     static char told[TOLD + 1];
-    size_t length, written = 0;
-    uint8_t *text = octets_of(zone->path, &length);
+    size_t written = 0;
+    drop_included(zone);
+    uint8_t *text = octets_of(zone->file.path, &zone->file.read);
     if (!text) {
         set_fault(zone, strerror(errno));
-        zone->read = (struct stat){0};   /* it is tried again, also if it doesn't change */
         return 0;
     }
-    uint32_t code = nk_zones_load(into, (uint8_t *)zone->origin, strlen(zone->origin), text, length, (uint8_t *)told, TOLD, &written);
+    uint32_t code = load_text(into, zone, text, told, &written);
     free(text);
+    told[written] = 0;
     if (code == NK_DONE) {
-        log_lines(zone, told, written);
+        log_lines(told);
         set_fault(zone, NULL);
         zone->is_served = 1;
         nk_zones_serial(into, (uint8_t *)zone->origin, strlen(zone->origin), &zone->serial);
@@ -112,18 +167,32 @@ static int load(nk_zones *into, struct zone *zone) {
             log_line("%s: no memory to keep its answers", zone->origin);
         return 1;
     }
-    told[written && told[written - 1] == '\n' ? written - 1 : written] = 0;
-    if (code == NK_NO_MEMORY) zone->read = (struct stat){0};
-    set_fault(zone, code == NK_BAD_TEXT ? told : code == NK_BAD_NAME ? "its origin isn't a domain name" : "out of memory");
+    if (code == NK_NO_MEMORY) zone->file.read = (struct stat){0};   /* it is tried again, also if it doesn't change */
+    char *more = told;
+    strsep(&more, "\n");
+    set_fault(zone, code == NK_BAD_TEXT ? told : code == NK_BAD_NAME ? "its origin isn't a domain name" : code == NK_NO_MEMORY ? "out of memory" : code == NK_NO_ROOM ? "it includes a file whose name is too long" : "the name of its file isn't UTF-8");
+    if (more) log_lines(more);
     return 0;
 }
 
-static int is_changed(const struct stat *old, const struct stat *new) {
-    return old->st_mtim.tv_sec != new->st_mtim.tv_sec || old->st_mtim.tv_nsec != new->st_mtim.tv_nsec || old->st_size != new->st_size || old->st_ino != new->st_ino;
+static int is_changed(const struct file *file) {
+    struct stat now;
+    const struct stat *old = &file->read;
+    watch_beside(file->path);
+    if (stat(file->path, &now)) now = (struct stat){0};
+    return old->st_mtim.tv_sec != now.st_mtim.tv_sec || old->st_mtim.tv_nsec != now.st_mtim.tv_nsec || old->st_size != now.st_size || old->st_ino != now.st_ino;
+}
+
+/* Whether a file of a zone has changed since it was read, or its own couldn't be. */
+static int has_changed(const struct zone *zone) {
+    int changed = is_changed(&zone->file) || !zone->file.read.st_ino;
+    for (size_t i = 0; i < zone->included_count; i++) changed |= is_changed(&zone->included[i]);
+    return changed;
 }
 
 /* Takes the files of a folder into the list: NAME.zone is that of the zone NAME. Returns 0, or -1 where it can't be read. */
 static int look_into(const char *folder) {
+    watch(folder);   /* before it is read, so that no change goes unseen */
     DIR *opened = opendir(folder);
     if (!opened) return log_line("%s: %s", folder, strerror(errno));
     for (struct dirent *entry; (entry = readdir(opened));) {
@@ -150,10 +219,9 @@ size_t zones_renew(int all) {
     size_t changes = 0, faults = 0, kept = 0;
     int can_see = 1;
     for (size_t i = 0; i < zone_count; i++) zones[i]->is_there = !zones[i]->is_of_folder;
-    for (size_t i = 0; i < config->folder_count; i++) can_see &= !look_into(config->folders[i]);
+    for (size_t i = 0; i < config->folders.count; i++) can_see &= !look_into(config->folders.list[i].name);
     for (size_t i = 0; i < zone_count && code == NK_DONE; i++) {
         struct zone *zone = zones[i];
-        struct stat now = {0};
         int is_gone = !zone->is_there && can_see;
         uint32_t dropped = is_gone && zone->is_served ? nk_zones_drop(&fresh, (uint8_t *)zone->origin, strlen(zone->origin)) : (uint32_t)NK_NO_ZONE;
         if (is_gone && dropped != NK_NO_MEMORY) {
@@ -163,11 +231,7 @@ size_t zones_renew(int all) {
             continue;
         }
         zones[kept++] = zone;
-        int is_seen = !stat(zone->path, &now);
-        if (all || !is_seen || is_changed(&zone->read, &now)) {
-            zone->read = now;
-            changes += load(&fresh, zone);
-        }
+        if (has_changed(zone) || all) changes += load(&fresh, zone);
         faults += zone->fault != NULL;
     }
     if (code != NK_DONE) {
@@ -190,12 +254,13 @@ size_t zones_renew(int all) {
     return faults;
 }
 
-int zones_begin(const struct config *given) {
+int zones_begin(const struct config *given, void (*watch_folder)(const char *folder)) {
     config = given;
+    watch = watch_folder;
     if (nk_interface() != NK_INTERFACE || nk_zones_new(&loaded) != NK_DONE) return log_line("no memory, or a library of another interface than %d", NK_INTERFACE);
-    for (size_t i = 0; i < config->zone_count; i++) {
-        const char *why = zones_add(config->zones[i].origin, config->zones[i].of);
-        if (why) return log_line("%s: %s", config->zones[i].origin, why);
+    for (size_t i = 0; i < config->zones.count; i++) {
+        const char *why = zones_add(config->zones.list[i].name, config->zones.list[i].of);
+        if (why) return log_line("%s: %s", config->zones.list[i].name, why);
     }
     return 0;
 }
@@ -225,7 +290,7 @@ size_t zones_print(char *text, size_t size) {
         struct zone *zone = zones[i];
         char serial[16] = "-";
         if (zone->is_served) snprintf(serial, sizeof serial, "%u", zone->serial);
-        int more = snprintf(text + length, size - length, "%s %s %s%s%s\n", zone->origin, serial, zone->path, zone->fault ? " FAULT " : "", zone->fault ? zone->fault : "");
+        int more = snprintf(text + length, size - length, "%s %s %s%s%s\n", zone->origin, serial, zone->file.path, zone->fault ? " FAULT " : "", zone->fault ? zone->fault : "");
         if (more < 0 || (size_t)more >= size - length) break;
         length += more;
     }
@@ -234,17 +299,6 @@ size_t zones_print(char *text, size_t size) {
 }
 
 size_t zones_count(void) { return zone_count; }
-
-void zones_folders(void (*take)(const char *path)) {
-    for (size_t i = 0; i < config->folder_count; i++) take(config->folders[i]);
-    for (size_t i = 0; i < zone_count; i++) {
-        char folder[4096];
-        char *slash = strrchr(zones[i]->path, '/');
-        if (zones[i]->is_of_folder) continue;
-        snprintf(folder, sizeof folder, "%.*s", slash ? (int)(slash - zones[i]->path) + (slash == zones[i]->path) : 1, slash ? zones[i]->path : ".");
-        take(folder);
-    }
-}
 
 void zones_take(nk_zones *own, unsigned long *seen) {
     nk_zones fresh = NK_ZONES_NONE, old = *own;

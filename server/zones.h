@@ -6,10 +6,11 @@
 
 #include "config.h"
 
-/* Makes the list of zones. Returns 0, or -1 where there is no memory or the library is of another interface. */
-int zones_begin(const struct config *config);
+/* Makes the list of zones; `watch` is called with each folder that has a zone file, before it is read. Returns 0, or -1 where there is no
+ * memory or the library is of another interface. */
+int zones_begin(const struct config *config, void (*watch)(const char *folder));
 
-/* Reads each file that is new or has changed since it was read, and all of them where `all` is set; takes in zones that came into a folder,
+/* Reads each zone of which a file is new or has changed since it was read, and all of them where `all` is set; takes in zones that came into a folder,
  * and lets go those that left it. A file that is bad leaves its old zone as it is. What is served changes in one step, at the end. Returns
  * how many zones have a file that is bad. */
 size_t zones_renew(int all);
@@ -22,9 +23,6 @@ const char *zones_drop(const char *origin);
 size_t zones_print(char *text, size_t size);
 
 size_t zones_count(void);
-
-/* Calls with each folder that has zone files. */
-void zones_folders(void (*take)(const char *path));
 
 /* Gives a worker the zones that are served now, where that aren't those that it has, of which the number is `seen`; -1: it has none. */
 void zones_take(nk_zones *own, unsigned long *seen);

@@ -155,7 +155,7 @@ def faults_are_told(room):
         need(subprocess.run(words, capture_output=True).returncode == 0, "a right configuration")
         server.write("example.com", more="@ garbage\n")
         done = subprocess.run(words, capture_output=True, text=True)
-        need(done.returncode == 1 and "example.com:10:3:" in done.stderr, done.stderr)
+        need(done.returncode == 1 and "example.com.zone:10:3:" in done.stderr, done.stderr)
 
 
 def both_ways_are_answered(room):
@@ -222,7 +222,7 @@ def zones_come_and_go(room):
             server.write("example.org", more="@ garbage\n")
             need(server.control("reload")[0] == 1, "a bad file has to be told")
             need("NOERROR" in ask(stream, "www.example.org.", "A")[0], "a zone whose file is bad isn't served any more")
-            need("FAULT example.org:10:3" in server.control("zones")[1], server.control("zones")[1])
+            need("example.org.zone:10:3: " in server.control("zones")[1], server.control("zones")[1])
             os.remove(f"{server.folder}/zones/example.org.zone")
             need(server.control("reload")[0] == 0 and "REFUSED" in ask(stream, "www.example.org.", "A")[0], "a zone that went is served")
             with open(f"{server.folder}/other", "w", encoding="ascii") as it:
@@ -233,6 +233,54 @@ def zones_come_and_go(room):
             need(server.control("drop", "example.net")[0] == 0 and "REFUSED" in ask(stream, "www.example.net.", "A")[0], "it is served still")
         need(server.control("sing")[0] == 1, "a command that isn't one")
         need('ningkraetd_responses_total{kind="refused"} 2' in server.control("metrics")[1], server.control("metrics")[1])
+
+
+def until(holds, what):
+    ends = time.monotonic() + PATIENCE
+    while not holds():
+        need(time.monotonic() < ends, what)
+        time.sleep(0.05)
+
+
+def files_are_included(room):
+    with Server(room) as server, server.udp() as stream:
+        parts = f"{server.folder}/parts"
+
+        def put(name, text):
+            os.makedirs(parts, exist_ok=True)
+            with open(f"{parts}/{name}", "w", encoding="ascii") as it:
+                it.write(text)
+
+        def stands(name, last):
+            return lambda: address(stream, f"{name}.example.com.") == [f"192.0.2.{last}"]
+
+        def reloaded_with(fault):
+            need(server.control("reload")[0] == 1 and fault in server.control("zones")[1], f"{fault}: {server.control('zones')[1]}")
+
+        server.write("example.com", 2, more="$INCLUDE ../parts/hosts\n$GENERATE 1-3 g$ A 192.0.2.$\n")
+        reloaded_with("parts/hosts can't be read")
+        need(stands("www", 80)() and not address(stream, "g1.example.com."), "a zone stays as it was where a file that it includes isn't there")
+        put("hosts", "one A 192.0.2.1\n$INCLUDE more deep.example.com.\n")
+        put("more", "two A 192.0.2.2\n")
+        need(server.control("reload") == (0, ""), server.control("zones")[1])
+        need(stands("one", 1)() and stands("two.deep", 2)() and stands("g3", 3)(), "what is included is served")
+        put("more", "two A 192.0.2.22\n")
+        until(stands("two.deep", 22), "a file that is included is watched")
+        put("more", "$INCLUDE ./hosts\n")
+        reloaded_with("is included within itself")
+        os.remove(f"{parts}/more")
+        os.mkfifo(f"{parts}/more")
+        reloaded_with("is a pipe or a device")
+        os.remove(f"{parts}/more")
+        os.mkdir(f"{parts}/more")
+        reloaded_with("is a folder")
+        os.rmdir(f"{parts}/more")
+        put("more", "two A\nthree A 192.0.2.256\n")
+        reloaded_with("parts/more:1:")
+        need(all(f"{server.folder}/zones/../parts/more:{line}:" in server.text() or f"{parts}/more:{line}:" in server.text() for line in (1, 2)), server.text())
+        need(stands("two.deep", 22)(), "the zone stays as it was")
+        put("more", "two A 192.0.2.2\n")
+        until(stands("two.deep", 2), "a file that was bad is read again")
 
 
 def clients_have_limits(room):
@@ -295,6 +343,14 @@ def responses_have_a_rate(room):
                 message = stream.recv(4096)
                 answers, cut = answers + (not message[2] & 2), cut + (message[2] >> 1 & 1)
         need(20 <= answers <= 42 and 20 <= cut <= 42, f"{answers} answers and {cut} cut ones")
+        while time.time() % 1 > 0.1:
+            time.sleep(0.01)
+        for _ in range(100):
+            stream.send(frames.query(["www.example.com.", "A", "id=1"]))
+        stream.send(frames.query(["xyz.example.com.", "TXT", "id=2"]))
+        while (message := stream.recv(4096))[1] != 2:
+            pass
+        need(message[7] == 1 and not message[2] & 2, "a name has its own limit, also beside one with a first label as long")
         with server.tcp() as by_tcp:
             need(address(by_tcp) == ["192.0.2.80"], "by TCP nothing is limited")
 
@@ -386,8 +442,8 @@ def queries_are_logged(room):
         need(line["zone"] == "example.com." and refused["zone"] is None and refused["kind"] == "refused", refused)
 
 
-TESTS = [faults_are_told, both_ways_are_answered, the_address_that_was_asked_answers, reloads_lose_nothing, zones_come_and_go, clients_have_limits,
-         descriptors_run_out, responses_have_a_rate, queries_are_logged, floods_are_survived, many_zones_start_soon]
+TESTS = [faults_are_told, both_ways_are_answered, the_address_that_was_asked_answers, reloads_lose_nothing, zones_come_and_go, files_are_included,
+         clients_have_limits, descriptors_run_out, responses_have_a_rate, queries_are_logged, floods_are_survived, many_zones_start_soon]
 
 
 def main(folder=None):
