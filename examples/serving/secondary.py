@@ -4,7 +4,8 @@
 PROGRAM is secondaryd, which says what to ask and when, and checks what comes; here are the sockets, the clock and the files. PRIMARY is the
 address of the primary server. Questions go out over TCP. A new version of the zone is written beside FILE, which it then replaces, and COMMAND
 is run, for example `ningkraetctl reload`; FILE.confirmed has the moment at which the zone was the primary's for the last time. When the zone
-expires, FILE is removed, and COMMAND is run too. With --notify, NOTIFY messages are taken on that port, by UDP, from the primary's address alone.
+expires, FILE is removed, and COMMAND is run too. With --notify, NOTIFY messages are taken on that port, by UDP and TCP, from the primary's address
+alone.
 """
 import argparse
 import os
@@ -149,26 +150,40 @@ class Secondary:
             log(error)
         self.tell(b"f")
 
-    def run(self, notifies):
+    def run(self, listeners):
         while True:
             if time.time() >= self.due:
                 self.ask()
             wait = min(max(self.due - time.time(), 0.1), TELLS)
-            ready, _, _ = select.select([notifies] if notifies else [], [], [], wait)
-            if ready:
-                message, sender = notifies.recvfrom(65535)
-                if sender[0] == self.primary[0] and (response := self.tell(b"n", message).get(b"r")):
-                    notifies.sendto(response, sender)
-            else:
+            ready, _, _ = select.select(listeners, [], [], wait)
+            for listener in ready:
+                try:
+                    self.take_notify(listener)
+                except OSError as error:
+                    log(error)
+            if not ready:
                 self.tell(b"t")
+
+    def take_notify(self, listener):
+        """Takes what comes from the primary's address, and answers it if it is a NOTIFY for the zone."""
+        if listener.type == socket.SOCK_DGRAM:
+            message, sender = listener.recvfrom(65535)
+            if sender[0] == self.primary[0] and (response := self.tell(b"n", message).get(b"r")):
+                listener.sendto(response, sender)
+            return
+        stream, sender = listener.accept()
+        with stream:
+            if sender[0] == self.primary[0] and (message := next(messages(stream), None)) and (response := self.tell(b"n", message).get(b"r")):
+                stream.sendall(struct.pack("!H", len(response)) + response)
 
 
 def listening(primary, port):
-    """A socket for the NOTIFY messages of a primary at an address."""
-    is_6 = ":" in primary
-    notifies = socket.socket(socket.AF_INET6 if is_6 else socket.AF_INET, socket.SOCK_DGRAM)
-    notifies.bind(("::" if is_6 else "0.0.0.0", port))
-    return notifies
+    """The sockets for the NOTIFY messages of a primary at an address."""
+    here = ("::" if ":" in primary else "0.0.0.0", port)
+    family = socket.AF_INET6 if ":" in primary else socket.AF_INET
+    datagrams = socket.socket(family, socket.SOCK_DGRAM)
+    datagrams.bind(here)
+    return [datagrams, socket.create_server(here, family=family)]
 
 
 def main():
@@ -183,8 +198,8 @@ def main():
     command = [given.program, given.origin] + (["--keys", given.keys] if given.keys else [])
     if (confirmed := copy.confirmed()) is not None:
         command += ["--zone", given.file, str(confirmed)]
-    notifies = listening(given.primary, given.notify) if given.notify is not None else None
-    Secondary(Program(command), copy, (given.primary, int(given.port))).run(notifies)
+    listeners = listening(given.primary, given.notify) if given.notify is not None else []
+    Secondary(Program(command), copy, (given.primary, int(given.port))).run(listeners)
 
 
 if __name__ == "__main__":

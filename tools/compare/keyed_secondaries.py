@@ -1,7 +1,7 @@
 #!/usr/bin/env python3
 """tools/compare/keyed_secondaries.py [SEED [FOLDER]]: zones that go from server to server under a key (TSIG, RFC 8945), both ways. NSD, Knot DNS
-and BIND are primaries of secondaryd behind examples/serving/secondary.py, and they are secondaries of ningkraetd. Either side has a zone of its
-own, by AXFR, and after a NOTIFY its next version, which it asks for by IXFR. Each copy is compared, record by record, with what the same server
+and BIND are primaries of secondaryd behind examples/serving/secondary.py, and they are secondaries of ningkraetd beside examples/serving/notify.py. Either
+side has a zone of its own, by AXFR, and after a NOTIFY its next version, which it asks for by IXFR. Each copy is compared, record by record, with what the same server
 reads from the zone file; a line says which primaries sent differences. With another secret, with a key that the primary doesn't know, and with a
 clock that is 400 seconds wrong no copy comes. If a server is missing, it is left out, and a line says so. Not part of the gate: it needs cc, and
 opens sockets on loopback. It ends what it starts.
@@ -82,9 +82,9 @@ def configuration(server, forms, zones, key=KEY, secret=SECRET, **words):
 
 
 @contextlib.contextmanager
-def running(words):
+def running(words, **how):
     """A process, up to the end of the block."""
-    process = peers.begun(words)
+    process = peers.begun(words, **how)
     try:
         yield process
     finally:
@@ -194,13 +194,14 @@ def kept_from(program, room, port, origin):
 
 
 def renew(process, port, number, paths, files, notified):
-    """Has a primary at a port take the zones of this number, and tells those who are notified of each once it has it."""
+    """Has a primary at a port take the zones of this number, and tells those who are notified here of each once it has it."""
     for origin, path in paths.items():
         put(path, files[origin])
     process.send_signal(signal.SIGHUP)
     for origin in paths:
         come(lambda: soa_serial(port, origin), lambda it: it == number)
-        secondaries.notify(notified[origin], origin)
+        if origin in notified:
+            secondaries.notify(notified[origin], origin)
 
 
 def soa_serial(port, origin):
@@ -213,7 +214,7 @@ def soa_serial(port, origin):
 # ---- others are secondaries
 
 
-def wrong_of_secondary(server, daemon, folder, versions):
+def wrong_of_secondary(server, daemon, library, folder, versions):
     """What is wrong with the copies that a server has of the zones of ningkraetd."""
     room, served, port, wrong = f"{folder}/{server}-secondary", free_port(), free_port(), []
     os.mkdir(room)
@@ -221,7 +222,8 @@ def wrong_of_secondary(server, daemon, folder, versions):
     for origin, path in files.items():
         put(path, versions[0][origin])
     read = [read_by(server, f"{room}/reads{number}", each) for number, each in enumerate(versions, 1)]
-    lines = [f"keys {key_file(f'{room}/keys')}", *(f"transfer {origin} {KEY}" for origin in files)]
+    lines = [f"keys {key_file(f'{room}/keys')}", f"control {room}/control", *(f"transfer {origin} {KEY}" for origin in files)]
+    notify = [f"{TOP}/examples/serving/notify.py", "--control", f"{room}/control", "--every", "0.2", "--interval", "1"]
     with contextlib.ExitStack() as begun:
         process = begun.enter_context(running(peers.daemon(daemon, served, files, *lines)))
         peers.connected(served).close()
@@ -232,11 +234,15 @@ def wrong_of_secondary(server, daemon, folder, versions):
             text = configuration(server, TAKES, files, served=served, folder=f"{room}/takes{number}", **words)
             begun.enter_context(running(peers.configured(server, f"{room}/takes{number}", others[how], text)))
             peers.connected(others[how]).close()
+        told = begun.enter_context(open(f"{room}/told", "w+", encoding="utf-8"))
+        begun.enter_context(running([*notify, f"{library}/libningkraet.so", *(f"{origin}=127.0.0.1@{port}" for origin in files)], stderr=told))
         for number, each in enumerate(versions, 1):
             if number > 1:
-                renew(process, served, number, files, each, dict.fromkeys(files, port))
+                renew(process, served, number, files, each, {})
             copies = {origin: come(lambda: secondaries.transferred(port, origin), lambda it: secondaries.serial(it) == number) for origin in files}
             wrong += [f"{origin} {number}" for origin in files if not read[number - 1][origin] or copies[origin] != read[number - 1][origin]]
+            knows = {origin: f"{origin}=127.0.0.1@{port} knows" for origin in files}
+            wrong += [f"{origin} {number} isn't told" for origin in files if not come(lambda: text_at(f"{room}/told").count(knows[origin]) >= number)]
         for how in refused:
             wrong += [f"{origin} by {how}" for origin in files if secondaries.transferred(others[how], origin)]
     return wrong
@@ -256,7 +262,7 @@ def main(seed="1", folder=None):
             given = loaded(server, room, versions)
             wrong, differences = wrong_of_primary(server, program, room, given)
             print(f"{server} as primary: {len(given[0])} zones, {differences} of them by differences, {len(wrong)} wrong", *wrong[:5], sep="\n    ", flush=True)
-            more = wrong_of_secondary(server, daemon, room, given)
+            more = wrong_of_secondary(server, daemon, library, room, given)
             print(f"{server} as secondary: {len(given[0])} zones, {len(more)} wrong", *more[:5], sep="\n    ", flush=True)
             differs = differs or bool(wrong or more) or "many.test." not in given[0]
     return 1 if differs else 0

@@ -108,9 +108,9 @@ def configured(server, folder, port, zones, turned=lambda text: text):
     return [found(server), *flags, f"{folder}/conf"]
 
 
-def begun(words):
+def begun(words, stderr=subprocess.DEVNULL):
     """A process that says nothing here."""
-    return subprocess.Popen(words, stdout=subprocess.DEVNULL, stderr=subprocess.DEVNULL)
+    return subprocess.Popen(words, stdout=subprocess.DEVNULL, stderr=stderr)
 
 
 def front(zoned, port, files, *flags):

@@ -1,0 +1,144 @@
+#!/usr/bin/env python3
+"""tools/compare/changing_zones.py [ROUNDS [FOLDER]]: a zone of 10,000 names that BIND, and then Knot DNS, signs with NSEC3, and that changes every
+second by dynamic updates (RFC 2136). secondaryd behind examples/serving/secondary.py follows it by IXFR under a key (TSIG); ningkraetd serves
+that copy; and NSD, Knot DNS and BIND, told by examples/serving/notify.py, follow ningkraetd by AXFR under the key. There are six rounds of ten
+seconds unless another number is given; after each one every server's zone of the last serial is compared with the primary's, record by record.
+If a server is missing, it is left out, and a line says so. Not part of the gate: it needs cc, dig and nsupdate, and opens sockets on loopback. It
+ends what it starts.
+
+The servers are Debian's packages nsd, knot and bind9. FOLDER is what `./build ningkraet` made; where none is named it is what `tools/build/program
+path ningkraet` gives. The status is 1 if a copy differs from its zone or doesn't arrive.
+"""
+import contextlib
+import os
+import subprocess
+import sys
+import tempfile
+import time
+
+sys.dont_write_bytecode = True
+sys.path.append(os.path.dirname(os.path.dirname(os.path.realpath(__file__))))
+
+import peers
+from keyed_secondaries import KEY, KEYS, TAKES, come, configuration, has_serial, key_file, running, secondary, text_of, SECRET
+from peers import free_port
+from sources import TOP
+
+ORIGIN, NAMES, CHANGES = "changing.test.", 10_000, 10
+# Seconds in which a primary has signed its zone, and in which a version has to come.
+SIGNS, COMES = 120, 60
+# What a primary's configuration says: it signs with NSEC3, takes updates under the key and gives the zone under it, and tells secondaryd.
+SIGNED = {
+    "named": (
+        'dnssec-policy "changing" {{ keys {{ csk lifetime unlimited algorithm ecdsap256sha256; }}; nsec3param iterations 0 optout no salt-length 0; }};\n'
+        'zone "{origin}" {{ type primary; file "{path}"; key-directory "{folder}"; dnssec-policy "changing"; allow-update {{ key "{key}"; }}; '
+        'allow-transfer {{ key "{key}"; }}; notify explicit; also-notify {{ 127.0.0.1 port {notified}; }}; }};\n'
+    ),
+    "knotd": (
+        "key:\n - id: {key}\n   algorithm: hmac-sha256\n   secret: {secret}\n"
+        "remote:\n - id: follower\n   address: 127.0.0.1@{notified}\n"
+        "acl:\n - id: keyed\n   address: 127.0.0.1\n   key: {key}\n   action: [transfer, update]\n"
+        "policy:\n - id: changing\n   algorithm: ecdsap256sha256\n   nsec3: on\n   nsec3-iterations: 0\n   nsec3-salt-length: 0\n"
+        'zone:\n - domain: "{origin}"\n   file: "{path}"\n   zonefile-sync: -1\n   dnssec-signing: on\n   dnssec-policy: changing\n   acl: keyed\n   notify: follower\n'
+    ),
+}
+
+
+def dug(port, *words, keyed=True):
+    """The lines that dig prints of an answer, in lower case, since NSD has names so, and sorted; none where there is none."""
+    key = ["-y", f"hmac-sha256:{KEY}:{text_of(SECRET)}"] if keyed else []
+    done = subprocess.run(["dig", "@127.0.0.1", "-p", str(port), *key, *words, "+noall", "+answer", "+onesoa", "+time=5", "+tries=1"], capture_output=True, text=True)
+    lines = [" ".join(it.lower().split()) for it in done.stdout.splitlines()]
+    return sorted(it for it in lines if it[:1] not in ("", ";") and " tsig " not in it)
+
+
+def serial_of(port):
+    """The serial that a server has of the zone, or 0."""
+    words = "".join(dug(port, ORIGIN, "SOA", keyed=False)[:1]).split()
+    return int(words[6]) if len(words) == 11 else 0
+
+
+def is_signed(port):
+    return bool(dug(port, ORIGIN, "NSEC3PARAM", keyed=False)) and "rrsig" in " ".join(dug(port, f"host{NAMES - 1}.{ORIGIN}", "A", "+dnssec", keyed=False))
+
+
+def zone_file(path):
+    with open(path, "w", encoding="ascii") as it:
+        it.write(f"$ORIGIN {ORIGIN}\n$TTL 300\n@ SOA ns h 1 7200 900 1209600 300\n@ NS ns\nns A 192.0.2.53\nchanges TXT none\n")
+        it.write("".join(f"host{number} A 192.0.2.{number % 250}\n" for number in range(NAMES)))
+    return path
+
+
+def change(updates, number):
+    """One update: a name more, one less, and other text at a third."""
+    lines = [f"update add new{number}.{ORIGIN} 300 A 192.0.2.{number % 250}", f"update delete host{number}.{ORIGIN} A", f"update delete changes.{ORIGIN} TXT"]
+    updates.stdin.write("\n".join([*lines, f'update add changes.{ORIGIN} 300 TXT "change {number}"', "send", ""]))
+    updates.stdin.flush()
+
+
+def followers(begun, room, served, library):
+    """Starts the servers that follow ningkraetd, and who tells them; gives their ports by their names."""
+    ports = {server: free_port() for server in TAKES if peers.found(server)}
+    for server, port in ports.items():
+        text = configuration(server, TAKES, {ORIGIN: ""}, served=served, folder=f"{room}/{server}-takes")
+        begun.enter_context(running(peers.configured(server, f"{room}/{server}-takes", port, text)))
+    words = [f"{TOP}/examples/serving/notify.py", "--control", f"{room}/control", "--every", "0.5", "--interval", "2", f"{library}/libningkraet.so"]
+    begun.enter_context(running([*words, *(f"{ORIGIN}=127.0.0.1@{port}" for port in ports.values())]))
+    return ports
+
+
+def wrong_of(primary, program, library, daemon, room, rounds):
+    """Which copies are wrong, each with its round."""
+    os.mkdir(room)
+    port, notified, served, copy, wrong = free_port(), free_port(), free_port(), f"{room}/copy", []
+    keys, words = key_file(f"{room}/keys"), {"origin": ORIGIN, "path": zone_file(f"{room}/zone"), "folder": f"{room}/serves", "notified": notified}
+    text = (KEYS["named"] if primary == "named" else "") + SIGNED[primary]
+    with contextlib.ExitStack() as begun:
+        begun.enter_context(running(peers.configured(primary, f"{room}/serves", port, text.format(**words, key=KEY, secret=text_of(SECRET)))))
+        peers.connected(port).close()
+        if not come(lambda: is_signed(port), seconds=SIGNS):
+            return ["the primary doesn't sign the zone"]
+        begun.enter_context(running(secondary(program, ORIGIN, port, copy, keys, "--notify", str(notified))))
+        if not come(lambda: has_serial(copy, serial_of(port)), seconds=COMES):
+            return ["no copy comes"]
+        begun.enter_context(running(peers.daemon(daemon, served, {ORIGIN: copy}, f"keys {keys}", f"transfer {ORIGIN} {KEY}", f"control {room}/control")))
+        peers.connected(served).close()
+        ports = {"ningkraetd": served, **followers(begun, room, served, library)}
+        updates = begun.enter_context(subprocess.Popen(["nsupdate", "-k", keys], stdin=subprocess.PIPE, text=True))
+        updates.stdin.write(f"server 127.0.0.1 {port}\nzone {ORIGIN}\n")
+        for number in range(CHANGES * rounds):
+            change(updates, number)
+            time.sleep(1)
+            if (number + 1) % CHANGES == 0:
+                wrong += [f"{server}, after {number + 1} changes" for server in differing(port, number, ports)]
+        updates.stdin.close()
+    return wrong
+
+
+def differing(port, number, ports):
+    """The servers of which the copy isn't the primary's zone, once that has this change and stands still."""
+    come(lambda: f'"change {number}"' in " ".join(dug(port, f"changes.{ORIGIN}", "TXT", keyed=False)))
+    while (serial := serial_of(port)) != (time.sleep(2), serial_of(port))[1]:
+        pass
+    zone = dug(port, ORIGIN, "AXFR")
+    for server, there in ports.items():
+        come(lambda: serial_of(there), lambda it: it == serial, seconds=COMES)
+        if not zone or dug(there, ORIGIN, "AXFR", keyed=server == "ningkraetd") != zone:
+            yield server
+
+
+def main(rounds="6", folder=None):
+    program, library = peers.program("secondaryd"), folder or peers.program("ningkraet")
+    for server in TAKES.keys() - set(filter(peers.found, TAKES)):
+        print(f"changing_zones: {server} isn't there, so it follows nothing, nor is it followed")
+    with tempfile.TemporaryDirectory() as room:
+        daemon, differs = peers.ningkraetd(library, room), False
+        for primary in filter(peers.found, SIGNED):
+            wrong = wrong_of(primary, program, library, daemon, f"{room}/{primary}", int(rounds))
+            print(f"{primary} as primary: {CHANGES * int(rounds)} changes, {len(wrong)} copies wrong", *wrong, sep="\n    ", flush=True)
+            differs = differs or bool(wrong)
+    return 1 if differs else 0
+
+
+if __name__ == "__main__":
+    peers.called(main, __doc__)
