@@ -90,7 +90,7 @@ fn first_records<'z>(zone: &'z Zone, other: &'z Record) -> [&'z Record; 8] {
 /// The zone's record at a place, in the order of keys; the other one where it has fewer.
 fn record_at<'z>(zone: &'z Zone, place: usize, other: &'z Record) -> &'z Record {
     let mut left = place;
-    for (_, set) in zone.records() {
+    for (_, set) in zone.records().iter() {
         let records = set.as_slice();
         if let Some(record) = records.get(left) {
             return record;

@@ -40,7 +40,7 @@ pub fn write_zone(out: &mut Answer, zone: &Zone) {
     let sets = zone.records();
     out.put(&sets.len());
     out.say(" sets");
-    for (key, set) in sets {
+    for (key, set) in sets.iter() {
         write_key(out, key);
         write_set(out, set);
     }

@@ -46,7 +46,7 @@ pub fn take_denials(zones: &mut Vec<Zone>) -> anyhow::Result<()> {
     let (Some(mut zone), Some(other)) = (zones.pop(), zones.pop()) else {
         bail!("there are no two zones");
     };
-    for (key, set) in other.own.inner().as_map() {
+    for (key, set) in other.own.inner().as_map().iter() {
         if key.record_type == RecordType::NSEC3 && zone.own.put_set(set.clone()?).is_err() {
             bail!("a set wasn't taken");
         }

@@ -4,10 +4,6 @@ use Rattle.std.specs.Prelude.{◌==◌, IfOk, Result, Ok, Err}
 use Rattle.std.proofs.lemmas.Bool.{eqb-true}
 use Rattle.std.proofs.lemmas.List.{drop-drop, drop_all}
 use Rattle.std.proofs.Math.Seq.{drop-append-add}
-use Rattle.std.specs.BTreeMap.Range.{entries_between}
-use Rattle.std.specs.declared.ops.Bound.TheVariants.{Unbounded}
-use Rattle.zone_proto.specs.Keys.{key_cmp}
-use Rattle.zone_map.specs.Zones.{Sets}
 
 -- joined lists without their first elements
 pub drop_joined : {A : Type 0} (n : ℕ) (xs ys : List A) → drop n (xs ++ ys) ≡ drop n xs ++ drop (n - length xs) ys
@@ -30,11 +26,6 @@ pub dropped_over : {A : Type 0} (xs ys : List A) (s c sent count : ℕ) → (s +
 dropped_over xs ys s c sent count e =
     let over : length xs + (s + c) ≡ sent + count = omega (arith, e) in
     drop-drop c s ys ∙ sym (drop-append-add xs ys (s + c)) ∙ ap (λ (i : ℕ). drop i (xs ++ ys)) over ∙ sym (drop-drop count sent (xs ++ ys))
-
--- all entries are between no bounds
-pub all_between : (m : Sets) → entries_between key_cmp Unbounded Unbounded m ≡ m
-all_between [] = refl
-all_between (e ∷ m) = ap (λ (x : Sets). e ∷ x) (all_between m)
 
 -- where all is dropped
 pub both_over : {A : Type 0} (n sent count : ℕ) (xs : List A) → length xs ≤ n → length xs ≤ sent + count → drop n xs ≡ drop count (drop sent xs)

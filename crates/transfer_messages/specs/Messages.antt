@@ -74,7 +74,7 @@ Goes t place octets (Err faults.Memory) = Unit {0}
 -- ---- as the program keeps it
 
 abbrev pub transfer_of : Kept → Transfer
-transfer_of t = record { query = t.query.now; soa = t.soa.now; sets = t.sets.now.entries; size = t.size; limit = t.limit }
+transfer_of t = record { query = t.query.now; soa = t.soa.now; sets = t.sets.now; size = t.size; limit = t.limit }
 
 -- ---- on the way
 

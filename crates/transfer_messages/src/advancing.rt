@@ -28,8 +28,8 @@ pub(crate) fn advance(
     count: usize,
 ) -> Result<Place, ProtoError>
     ensures { IfOk result (λ next.
-        left_at transfer.now.soa.now transfer.now.sets.now.entries next
-        ≡ drop count (left_at transfer.now.soa.now transfer.now.sets.now.entries place.now)) }
+        left_at transfer.now.soa.now transfer.now.sets.now next
+        ≡ drop count (left_at transfer.now.soa.now transfer.now.sets.now place.now)) }
 {
     match place {
         Place::Opening(sent) => match pass(*sent, count, &soa_alone(transfer.soa)) {
@@ -49,9 +49,9 @@ fn advance_in(
     further: usize,
 ) -> Result<Place, ProtoError>
     ensures { IfOk result (λ next.
-        left_at transfer.now.soa.now transfer.now.sets.now.entries next
+        left_at transfer.now.soa.now transfer.now.sets.now next
         ≡ drop further (drop passed
-        (sets_records (ahead_of transfer.now.sets.now.entries (option_copied from.entry))
+        (sets_records (ahead_of transfer.now.sets.now (option_copied from.entry))
         ++ records_together (soa_alone transfer.now.soa.now)))) }
 {
     let (mut sent, mut count) = (passed, further);
@@ -69,7 +69,7 @@ fn advance_in(
 
 /// The place behind so many and so many of the records with which a transfer ends.
 fn advance_last(transfer: &Transfer<'_>, sent: usize, count: usize) -> Place
-    ensures { left_at transfer.now.soa.now transfer.now.sets.now.entries result
+    ensures { left_at transfer.now.soa.now transfer.now.sets.now result
         ≡ drop count (drop sent (records_together (soa_alone transfer.now.soa.now))) }
 {
     let last = soa_alone(transfer.soa);

@@ -5,20 +5,16 @@ ghost use Rattle.std.specs.Map.{keys_of};
 ghost use Rattle.zone_proto.specs.Keys.{key_cmp};
 ghost use Rattle.transfer_messages.specs.Transfers.{ahead_of};
 
-use std::collections::BTreeMap;
-use std::collections::btree_map::Range;
-use zone_proto::{RecordSet, RrKey};
+use zone_map::{SetMap, SetRange};
+use zone_proto::RrKey;
 
 /// The sets from a key on; all of them without a key.
-pub(crate) fn sets_ahead<'z>(
-    sets: &'z BTreeMap<RrKey, RecordSet>,
-    from: Option<&RrKey>,
-) -> Range<'z, RrKey, RecordSet>
-    ensures value { result ≡ ahead_of sets.now.entries (option_copied from.entry) }
-    ensures ordered { IsStrictlySortedBy key_cmp (keys_of sets.now.entries) }
+pub(crate) fn sets_ahead<'z>(sets: &'z SetMap, from: Option<&RrKey>) -> SetRange<'z>
+    ensures value { result ≡ ahead_of sets.now (option_copied from.entry) }
+    ensures ordered { IsStrictlySortedBy key_cmp (keys_of sets.now) }
 {
     match from {
-        None => sets.range(..),
-        Some(key) => sets.range(key..),
+        None => sets.iter(),
+        Some(key) => sets.from(key),
     }
 }

@@ -10,8 +10,8 @@ use crate::place::Place;
 use crate::transfer::Transfer;
 use message_writing::Group;
 use std::alloc::{AllocError, Global};
-use std::collections::btree_map::Range;
-use zone_proto::{Record, RecordSet, RrKey};
+use zone_map::SetRange;
+use zone_proto::{Record, RecordSet};
 use zone_server::transfer_records::{between, push_singles, soa_alone};
 
 /// How many records are looked at for one message. In 65,535 octets there is mostly no room for as many.
@@ -24,7 +24,7 @@ pub(crate) fn coming<'z>(
     place: &Place,
 ) -> Result<Vec<Group<'z>>, AllocError>
     ensures { IfOk result (λ groups. Gathers [] groups.items
-        (left_at transfer.now.soa.now transfer.now.sets.now.entries place.now) []) }
+        (left_at transfer.now.soa.now transfer.now.sets.now place.now) []) }
 {
     let (soa, sets) = (transfer.soa, transfer.sets);
     let mut groups = Vec::new(alloc);
@@ -45,7 +45,7 @@ pub(crate) fn coming<'z>(
 fn push_sets<'z>(
     groups: &mut Vec<Group<'z>>,
     passed: usize,
-    sets: Range<'z, RrKey, RecordSet>,
+    sets: SetRange<'z>,
     soa: &'z RecordSet,
 ) -> Result<(), AllocError>
     ensures { OnOk result (Gathers groups.old.items groups.new.items

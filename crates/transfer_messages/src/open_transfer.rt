@@ -6,8 +6,8 @@ use crate::sealing::{Sealing, seal_whole};
 use crate::transfer::{Transfer, TransferFault, write_message};
 use message_reading::Query;
 use std::alloc::{AllocError, Global};
-use std::collections::BTreeMap;
-use zone_proto::{RecordSet, ResponseCode, RrKey};
+use zone_map::SetMap;
+use zone_proto::{RecordSet, ResponseCode};
 use zone_server::{DATAGRAM_SIZE, send_code};
 
 /// How many octets a message has at most before it is signed: 65,535 without the 358 that a TSIG has at most.
@@ -50,11 +50,11 @@ impl OpenTransfer {
         &mut self,
         alloc: Global,
         soa: &RecordSet,
-        sets: &BTreeMap<RrKey, RecordSet>,
+        sets: &SetMap,
         now: u64,
         out: &mut Vec<u8>,
     ) -> Result<bool, AllocError>
-        ensures { GoesOn soa.now sets.now.entries now self.old self.new out.new.items result }
+        ensures { GoesOn soa.now sets.now now self.old self.new out.new.items result }
     {
         match self.plan(alloc, soa, sets, out)? {
             Planned::End => Ok(false),
@@ -76,10 +76,10 @@ impl OpenTransfer {
         &self,
         alloc: Global,
         soa: &RecordSet,
-        sets: &BTreeMap<RrKey, RecordSet>,
+        sets: &SetMap,
         out: &mut Vec<u8>,
     ) -> Result<Planned, AllocError>
-        ensures { Plans soa.now sets.now.entries self.now out.new.items result }
+        ensures { Plans soa.now sets.now self.now out.new.items result }
     {
         if self.is_broken_off {
             out.clear();

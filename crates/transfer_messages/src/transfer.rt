@@ -9,8 +9,8 @@ use crate::place::Place;
 use message_reading::Query;
 use message_writing::{Group, Response, WriteError, write_front};
 use std::alloc::{AllocError, Global};
-use std::collections::BTreeMap;
-use zone_proto::{RecordSet, RrKey};
+use zone_map::SetMap;
+use zone_proto::RecordSet;
 
 /// A zone that is sent whole, as the response to a query.
 #[derive(Clone, Copy)]
@@ -20,7 +20,7 @@ pub struct Transfer<'z> {
     /// The SOA set of the zone.
     pub soa: &'z RecordSet,
     /// All sets of the zone.
-    pub sets: &'z BTreeMap<RrKey, RecordSet>,
+    pub sets: &'z SetMap,
     /// How many octets the server takes in one datagram, for the OPT record (RFC 6891 section 6.2.3).
     pub size: u16,
     /// How many octets a message may have: 282 at least.

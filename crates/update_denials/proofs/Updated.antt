@@ -85,7 +85,7 @@ module _ (octets_of : PlanSigner → SignedPart → List ℕ) (origin : Name) (o
       (λ (x : Sets). IsSecured made_by signing.request.inception origin signers (denied_by signing.request.nx_proof_kind origin before) (with_signatures x (filled x answers)))
       (sym p.made.planned.kept)
       (kept_secured octets_of signing.span usable old signing.request.inception origin signers (denied_by signing.request.nx_proof_kind origin before) p.made.planned.blank
-      p.made.planned.is_planned.secured found (AreStored-zone p.made.planned.blank p.made.planned.zone found)).secured
+      p.made.planned.is_planned.secured found (AreStored-zone p.made.planned.blank p.made.planned.zone)).secured
 
   soa : owns before origin SOA ≡ true
   soa =

@@ -8,6 +8,8 @@ use Rattle.std.specs.Map.{lookup, keys_of}
 use Rattle.std.specs.Option.{option_or}
 use Rattle.std.proofs.lemmas.List.Elements.{All-push}
 use Rattle.std.proofs.lemmas.Map.{update_all_push}
+use Rattle.std.proofs.lemmas.Map.Keys.{IsDistinct-from_sorted}
+use Rattle.std.proofs.lemmas.Map.Made.{update_all_none}
 use Rattle.zone_proto.specs.declared.rdata.RData.{RData}
 use Rattle.zone_proto.specs.declared.rdata.RData.TheVariants as V
 use Rattle.zone_proto.specs.declared.record.Record.{Record}
@@ -117,6 +119,35 @@ set_more serial m n key g left all made steps sorted k =
         ∙ with_own m key (set_in serial g)
         ∙ ap (λ q. option_or (set_in serial g) (last_under m q)) (sym same)
     by false h = ap (option_or (option_and_then (set_in serial) (lookup (key_eq k) left))) (with_apart m key k (set_in serial g) h)
+
+keys_behind : (m : Sets) (e : RrKey × RRset) (ks : List RrKey) → keys_of (m ++ e ∷ []) ++ ks ≡ keys_of m ++ e.0 ∷ ks
+keys_behind [] e ks = refl
+keys_behind (f ∷ m) e ks = ap (λ js. f.0 ∷ js) (keys_behind m e ks)
+
+-- keys in order stay so without one of them
+skipped : (P : RrKey → Type 0) (js : List RrKey) (k : RrKey) (ks : List RrKey) → AllByRecursion P (js ++ k ∷ ks) → AllByRecursion P (js ++ ks)
+skipped P [] k ks a = a.1
+skipped P (j ∷ js) k ks a = (a.0, skipped P js k ks a.1)
+
+sorted_skipped : (js : List RrKey) (k : RrKey) (ks : List RrKey) → IsStrictlySortedBy key_cmp (js ++ k ∷ ks) → IsStrictlySortedBy key_cmp (js ++ ks)
+unfolding IsStrictlySortedBy
+sorted_skipped [] k ks s = s.1
+sorted_skipped (j ∷ js) k ks s = (skipped (λ y. key_cmp j y ≡ Less) js k ks s.0, sorted_skipped js k ks s.1)
+
+-- the keys of the sets so far and those of the groups that are left ascend
+pub sorted_more : (serial : ℕ) (m n : Sets) (key : RrKey) (g : Group) (left all : List (RrKey × Group)) → n ≡ with_set m key (set_in serial g) → all ≡ (key, g) ∷ left
+    → IsStrictlySortedBy key_cmp (keys_of m ++ keys_of all) → IsStrictlySortedBy key_cmp (keys_of n ++ keys_of left)
+sorted_more serial m n key g left all made steps sorted =
+    subst (λ (es : Sets). IsStrictlySortedBy key_cmp (keys_of es ++ keys_of left)) (sym made)
+    (by (set_in serial g) (subst (λ (es : List (RrKey × Group)). IsStrictlySortedBy key_cmp (keys_of m ++ keys_of es)) steps sorted))
+  where
+    by : (o : Option RRset) → IsStrictlySortedBy key_cmp (keys_of m ++ key ∷ keys_of left) → IsStrictlySortedBy key_cmp (keys_of (with_set m key o) ++ keys_of left)
+    by None s = sorted_skipped (keys_of m) key (keys_of left) s
+    by (Some v) s = subst (IsStrictlySortedBy key_cmp) (sym (keys_behind m (key, v) (keys_of left))) s
+
+-- of sets in order, the last one under a key is the one there
+pub last_alone : (m : Sets) (k : RrKey) → IsStrictlySortedBy key_cmp (keys_of m) → lookup (key_eq k) m ≡ last_under m k
+last_alone m k sorted = sym (update_all_none (eq_by_cmp_equiv key_cmp_total) key_eq (λ x y. refl) m k (IsDistinct-from_sorted key_cmp (keys_of m) sorted))
 
 pub sorted_left : (key : RrKey) (g : Group) (left all : List (RrKey × Group)) → all ≡ (key, g) ∷ left → IsStrictlySortedBy key_cmp (keys_of all) → IsStrictlySortedBy key_cmp (keys_of left)
 unfolding IsStrictlySortedBy

@@ -14,7 +14,7 @@ use crate::given::{GivenRecord, RecordAt};
 use crate::groups::Group;
 use crate::warning::LoadWarning;
 use std::alloc::Global;
-use zone_map::{NewSets, RecordMap};
+use zone_map::RecordMap;
 use zone_proto::{ProtoError, RecordSet, RrKey};
 
 /// The sets of these records, each with the signatures that cover it. Signatures of no set are left out, with a
@@ -41,9 +41,8 @@ pub(crate) fn sets_of(
     for (key, group) in groups {
         put_set(alloc, &mut sets, key, group, serial, warnings)?;
     }
-    // All at once, since the nodes of a map that is filled in the order of its keys are half full.
-    let sets = NewSets::from_entries(alloc, sets)?;
-    RecordMap::from_sets(alloc, sets)
+    // They stay in this list, as a zone that is loaded mostly stays as it is.
+    RecordMap::from_rows(alloc, sets)
 }
 
 /// Appends the set of a group to others, if the group has records.

@@ -27,7 +27,7 @@ use zone_handler::{
 };
 use zone_lookup::start_of_authority::first_soa;
 use zone_lookup::{InnerInMemory, Outcome, Searches, ZoneError};
-use zone_map::Reads;
+use zone_map::{Reads, SetMap};
 use zone_proto::{
     DNSClass, LowerName, Name, Nsec3Hash, NxProofKind, RecordSet, RecordType, ResponseCode, RrKey,
     SOA, Signer,
@@ -181,8 +181,8 @@ impl<S: Signer, H: Nsec3Hash> InMemoryZoneHandler<S, H> {
     }
 
     /// The record sets by their keys, in the order of the keys.
-    pub fn records(&self) -> &BTreeMap<RrKey, RecordSet>
-        ensures entries { result.now.entries ≡ self.now.inner.records }
+    pub fn records(&self) -> &SetMap
+        ensures entries { result.now ≡ self.now.inner.records }
         ensures zone { IsZone self.now.inner.records }
         ensures origin { lower self.now.origin ≡ self.now.origin }
     {

@@ -1,20 +1,18 @@
 //! The transfer of a zone.
 ghost use Rattle.std.specs.Prelude.{◌≡◌, ◌≢◌, ◌++◌, IfOk, OnOk, IsOkUnless};
-ghost use Rattle.std.specs.BTreeMap.{values};
+ghost use Rattle.std.specs.Map.{values_of};
 ghost use Rattle.zone_handler.specs.Sets.{sets_records};
 ghost use Rattle.zone_signing.specs.Signatures.{answer_signatures};
 ghost use Rattle.zone_in_memory.specs.Transfers.{refusal, IsSoaPart, IsTransfer, AnswersTransfer};
 
 use crate::in_memory_zone_handler::InMemoryZoneHandler;
 use std::alloc::Global;
-use std::collections::BTreeMap;
 use zone_handler::{
     AxfrPolicy, AxfrRecords, LookupError, LookupOptions, LookupRecords, Request, ZoneHandler,
     ZoneTransfer,
 };
-use zone_proto::{
-    Nsec3Hash, ProtoError, Record, RecordSet, RecordType, ResponseCode, RrKey, RrsetRecords, Signer,
-};
+use zone_map::SetMap;
+use zone_proto::{Nsec3Hash, ProtoError, Record, RecordType, ResponseCode, RrsetRecords, Signer};
 
 impl<S: Signer, H: Nsec3Hash> InMemoryZoneHandler<S, H> {
     /// The transfer of the zone that a request asks for, or its refusal.
@@ -105,12 +103,9 @@ fn refusal(policy: AxfrPolicy, request: &Request) -> Option<LookupError>
 }
 
 /// Copies of the records of all sets in the order of their keys, each set's with its signatures if `options` ask for DNSSEC.
-fn copies(
-    alloc: Global,
-    sets: &BTreeMap<RrKey, RecordSet>,
-    options: LookupOptions,
-) -> Result<Vec<Record>, ProtoError>
-    ensures copies { IfOk result (λ copies. copies.items ≡ sets_records options (values sets.now)) }
+fn copies(alloc: Global, sets: &SetMap, options: LookupOptions) -> Result<Vec<Record>, ProtoError>
+    ensures copies { IfOk result
+        (λ copies. copies.items ≡ sets_records options (values_of sets.now)) }
     ensures err { IsOkUnless result ProtoError.Memory }
 {
     let mut copies = Vec::with_capacity(alloc, sets.len())?;

@@ -24,12 +24,11 @@ use crate::found::{Found, Outcome};
 use crate::zone_error::ZoneError;
 use lookup_types::{LookupError, LookupOptions, Nsec3QueryInfo};
 use std::alloc::Global;
-use std::collections::BTreeMap;
 use std::marker::Model;
 use zone_denial::denial::{self, NsecDenial};
 use zone_denial::{closest, nsec3_denial};
 use zone_map::direct::{self, Direct};
-use zone_map::{DenialOwners, Reads, RecordMap, Searches, wildcard};
+use zone_map::{DenialOwners, Reads, RecordMap, Searches, SetMap, wildcard};
 use zone_proto::{
     DNSClass, LowerName, Nsec3Hash, ProtoError, Record, RecordSet, RecordType, RrKey, Signer,
 };
@@ -259,8 +258,8 @@ impl<S: Signer> InnerInMemory<S> {
     }
 
     /// The record sets by their keys, in the order of the keys.
-    pub fn as_map(&self) -> &BTreeMap<RrKey, RecordSet>
-        ensures entries { result.now.entries ≡ self.now.records }
+    pub fn as_map(&self) -> &SetMap
+        ensures entries { result.now ≡ self.now.records }
         ensures zone { IsZone self.now.records }
     {
         self.records.as_map()

@@ -1,7 +1,6 @@
 -- A pass over keys that ascend
 use Rattle.std.proofs.Common.{◌≡◌, Bool, true, false, List, [], ◌∷◌, refl, sym, ap, ◌∙◌, Ordering, Less, Equal, Greater}
-use Rattle.std.specs.Prelude.{Option, Some, None, ◌||◌, MatchOption, option_copied}
-use denote.Ref.{Bor}
+use Rattle.std.specs.Prelude.{◌||◌}
 use Rattle.std.specs.List.{AllByRecursion, list_any}
 use Rattle.std.specs.List.Sorted.{IsStrictlySortedBy}
 use Rattle.std.specs.Ordering.{is_eq, is_le}
@@ -10,13 +9,7 @@ use Rattle.zone_proto.specs.declared.rr_key.RrKey.{RrKey}
 use Rattle.zone_proto.specs.Keys.{key_cmp, key_eq}
 use Rattle.zone_proto.specs.Order.{is_upto}
 use Rattle.zone_proto.proofs.Ordering.KeyOrder.{key_same, key_itself}
-use Rattle.zone_map.specs.Ahead.{ahead}
 use Rattle.zone_map.proofs.Stored.{all_above}
-
--- the next key and the others behind it are those that were left
-pub advanced : (next : Option (Bor RrKey)) (left others : List RrKey) → MatchOption next ((left ≡ []) × (others ≡ [])) (λ k. left ≡ k.now ∷ others) → ahead (option_copied next) others ≡ left
-advanced None left others h = sym h.0
-advanced (Some k) left others h = sym h
 
 -- a key that comes before another is none of those from there on
 pub passed : (first k q : RrKey) (others : List RrKey) → is_upto key_cmp k first ≡ false → is_upto key_cmp k q ≡ true → list_any (key_eq q) (first ∷ others) ≡ list_any (key_eq q) others

@@ -1,7 +1,6 @@
 -- Sets of denial that come where none stood
 use Rattle.std.proofs.Common.{◌≡◌, ℕ, Bool, true, false, cond, [], ◌∷◌, refl, sym, ap, ◌∙◌, eqb-true}
 use Rattle.std.specs.Prelude.{List, Option, Some, None, is_some, not, ◌==◌, ◌||◌, filter, option_map, IfSome}
-use Rattle.std.specs.BTreeMap.{BTreeMap, MovesPrefix}
 use Rattle.std.specs.List.{list_any}
 use Rattle.std.specs.List.Sorted.{IsStrictlySortedBy}
 use Rattle.std.specs.Map.{lookup, keys_of}
@@ -18,6 +17,7 @@ use Rattle.zone_proto.specs.Sets.{RRset}
 use Rattle.zone_proto.specs.Types.{NSEC, NSEC3}
 use Rattle.zone_proto.proofs.Ordering.KeyOrder.{key_same}
 use Rattle.zone_proto.proofs.Names.Tree.{name_order}
+use Rattle.zone_frozen.specs.Sets.{MovesSets}
 use Rattle.zone_map.specs.Puts.{with_exchanged, with_before, without_added, without_denials}
 use Rattle.zone_map.specs.Upserts.{is_denial_type}
 use Rattle.zone_map.specs.Zones.{Sets, owns, owners}
@@ -80,33 +80,33 @@ none_common had (e ∷ es) none all = by (is_denial_type e.0.record_type.0) refl
 
 -- ---- and without the sets of denial that came, all or some of them, the others are as they were
 
-pub denials_out : (had made after rest : BTreeMap RrKey RRset) → IsStrictlySortedBy key_cmp (keys_of had.entries) → MovesPrefix key_cmp had made after rest
-    → without_denials had.entries ≡ had.entries → without_denials made.entries ≡ [] → without_denials after.entries ≡ had.entries
+pub denials_out : (had made after rest : Sets) → IsStrictlySortedBy key_cmp (keys_of had) → MovesSets had made after rest
+    → without_denials had ≡ had → without_denials made ≡ [] → without_denials after ≡ had
 denials_out had made after rest ordered (xs, parts, inserts) none all =
-    same_entries (without_denials after.entries) had.entries (sorted_filter is_kept after.entries inserts.1) ordered (λ q. found_kept q after.entries ∙ by q (is_denial_type q.record_type.0) refl)
+    same_entries (without_denials after) had (sorted_filter is_kept after inserts.1) ordered (λ q. found_kept q after ∙ by q (is_denial_type q.record_type.0) refl)
   where
-    by : (q : RrKey) (b : Bool) → is_denial_type q.record_type.0 ≡ b → cond (not (is_denial_type q.record_type.0)) (lookup (key_eq q) after.entries) None ≡ lookup (key_eq q) had.entries
+    by : (q : RrKey) (b : Bool) → is_denial_type q.record_type.0 ≡ b → cond (not (is_denial_type q.record_type.0)) (lookup (key_eq q) after) None ≡ lookup (key_eq q) had
     by q true g =
-        ap (λ b. cond (not b) (lookup (key_eq q) after.entries) None) g
-        ∙ sym (ap (lookup (key_eq q)) (sym none) ∙ found_kept q had.entries ∙ ap (λ b. cond (not b) (lookup (key_eq q) had.entries) None) g)
+        ap (λ b. cond (not b) (lookup (key_eq q) after) None) g
+        ∙ sym (ap (lookup (key_eq q)) (sym none) ∙ found_kept q had ∙ ap (λ b. cond (not b) (lookup (key_eq q) had) None) g)
     by q false g =
-        let absent : lookup (key_eq q) made.entries ≡ None = sym (found_kept q made.entries ∙ ap (λ b. cond (not b) (lookup (key_eq q) made.entries) None) g) ∙ ap (lookup (key_eq q)) all in
-        let whole : list_any (key_eq q) (keys_of made.entries) ≡ false = sym (is_some-lookup (key_eq q) made.entries) ∙ ap is_some absent in
-        ap (λ b. cond (not b) (lookup (key_eq q) after.entries) None) g
+        let absent : lookup (key_eq q) made ≡ None = sym (found_kept q made ∙ ap (λ b. cond (not b) (lookup (key_eq q) made) None) g) ∙ ap (lookup (key_eq q)) all in
+        let whole : list_any (key_eq q) (keys_of made) ≡ false = sym (is_some-lookup (key_eq q) made) ∙ ap is_some absent in
+        ap (λ b. cond (not b) (lookup (key_eq q) after) None) g
         ∙ inserts.0 q
-        ∙ update_all_apart xs (λ k. lookup (key_eq k) had.entries) q (first_false (list_any (key_eq q) (keys_of xs)) (list_any (key_eq q) (keys_of rest.entries))
-        (sym (list_any-append (key_eq q) (keys_of xs) (keys_of rest.entries)) ∙ ap (list_any (key_eq q)) (sym (keys_of-append xs rest.entries) ∙ ap keys_of (sym parts)) ∙ whole))
+        ∙ update_all_apart xs (λ k. lookup (key_eq k) had) q (first_false (list_any (key_eq q) (keys_of xs)) (list_any (key_eq q) (keys_of rest))
+        (sym (list_any-append (key_eq q) (keys_of xs) (keys_of rest)) ∙ ap (list_any (key_eq q)) (sym (keys_of-append xs rest) ∙ ap keys_of (sym parts)) ∙ whole))
 
 -- however those are told that were added, with them and those that were exchanged the sets are as they were
 pub all_undone : {V : Type 0} (items : V → List RrKey) (added : Option V) (had more common : Sets) (sorted : IsStrictlySortedBy key_cmp (keys_of more))
-    (is_common : common ≡ filter (λ (e : RrKey × RRset). list_any (key_eq e.0) (keys_of had)) more) (made : BTreeMap RrKey RRset)
-    (is_fresh : made.entries ≡ filter (λ (e : RrKey × RRset). not (list_any (key_eq e.0) (keys_of had))) more)
-    → IfSome added (λ keys. items keys ≡ keys_of made.entries) → IfNone added ((common ≡ []) × (without_denials had ≡ had) × (without_denials made.entries ≡ []))
-    → (sets after : BTreeMap RrKey RRset) (before : Sets) → sets.entries ≡ with_exchanged had common → IsStrictlySortedBy key_cmp (keys_of sets.entries)
-    → (rest : BTreeMap RrKey RRset) × MovesPrefix key_cmp sets made after rest → with_before sets.entries before ≡ had
-    → with_before (without_added after.entries (option_map items added)) before ≡ had
+    (is_common : common ≡ filter (λ (e : RrKey × RRset). list_any (key_eq e.0) (keys_of had)) more) (made : Sets)
+    (is_fresh : made ≡ filter (λ (e : RrKey × RRset). not (list_any (key_eq e.0) (keys_of had))) more)
+    → IfSome added (λ keys. items keys ≡ keys_of made) → IfNone added ((common ≡ []) × (without_denials had ≡ had) × (without_denials made ≡ []))
+    → (sets after : Sets) (before : Sets) → sets ≡ with_exchanged had common → IsStrictlySortedBy key_cmp (keys_of sets)
+    → (rest : Sets) × MovesSets sets made after rest → with_before sets before ≡ had
+    → with_before (without_added after (option_map items added)) before ≡ had
 all_undone items (Some keys) had more common sorted is_common made is_fresh are_keys denials sets after before exchanged ordered moved undone =
     put_undone had more common sorted is_common made is_fresh sets after (items keys) before exchanged ordered moved are_keys undone
 all_undone items None had more common sorted is_common made is_fresh keys (alone, none, all) sets after before exchanged ordered (rest, moved) undone =
-    let same : sets.entries ≡ had = exchanged ∙ ap (with_exchanged had) alone in
+    let same : sets ≡ had = exchanged ∙ ap (with_exchanged had) alone in
     ap (λ (n : Sets). with_before n before) (denials_out sets made after rest ordered moved (ap without_denials same ∙ none ∙ sym same) all) ∙ undone

@@ -11,6 +11,7 @@ pub mod Parting
 pub mod FirstDenials
 pub mod CnamesAlone
 pub mod LastKeys
+pub mod LastSets
 pub mod Lists
 pub mod OwnersKept
 pub mod OtherOwners

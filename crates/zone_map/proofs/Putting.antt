@@ -1,7 +1,6 @@
 -- Sets that are put into a zone together are found there, and once they are undone the zone is as it was
-use Rattle.std.proofs.Common.{◌≡◌, ℕ, Bool, true, false, cond, List, [], ◌∷◌, ◌++◌, refl, sym, ap, ◌∙◌, subst, Ordering, Less, Equal, Greater}
+use Rattle.std.proofs.Common.{append-nil, ◌≡◌, ℕ, Bool, true, false, cond, List, [], ◌∷◌, ◌++◌, refl, sym, ap, ◌∙◌, subst, Ordering, Less, Equal, Greater}
 use Rattle.std.specs.Prelude.{Option, Some, None, is_some, not, ◌&&◌, ◌||◌, filter}
-use Rattle.std.specs.BTreeMap.{BTreeMap, InsertsAll, MovesPrefix}
 use Rattle.std.specs.Cmp.{eq_by_cmp_equiv}
 use Rattle.std.specs.List.{AllByRecursion, list_any}
 use Rattle.std.specs.List.Sorted.{IsStrictlySortedBy}
@@ -22,6 +21,7 @@ use Rattle.zone_proto.specs.Names.{Name}
 use Rattle.zone_proto.specs.Sets.{RRset}
 use Rattle.zone_proto.proofs.Ordering.KeyLaws.{key_cmp_total}
 use Rattle.zone_proto.proofs.Ordering.KeyOrder.{key_same, key_itself}
+use Rattle.zone_frozen.specs.Sets.{InsertsSets, MovesSets}
 use Rattle.zone_map.specs.Puts.{with_exchanged, with_before, without_all, ArePut}
 use Rattle.zone_map.specs.Zones.{Sets, set_at, without, IsStoredAt, IsZone}
 use Rattle.zone_map.proofs.Ahead.{none_above}
@@ -222,7 +222,7 @@ found_without_all m (k ∷ ks) q s =
 
 -- sets of which those under whose keys others stand are exchanged for them, and the others are added
 module _ (had more common : Sets) (sorted : IsStrictlySortedBy key_cmp (keys_of more)) (is_common : common ≡ filter (λ (e : RrKey × RRset). list_any (key_eq e.0) (keys_of had)) more)
-    (made : BTreeMap RrKey RRset) (is_fresh : made.entries ≡ filter (λ (e : RrKey × RRset). not (list_any (key_eq e.0) (keys_of had))) more) where
+    (made : Sets) (is_fresh : made ≡ filter (λ (e : RrKey × RRset). not (list_any (key_eq e.0) (keys_of had))) more) where
   abbrev stands : RrKey → Bool
   stands q = list_any (key_eq q) (keys_of had)
 
@@ -232,20 +232,20 @@ module _ (had more common : Sets) (sorted : IsStrictlySortedBy key_cmp (keys_of 
       (IsDistinct-keys_filter key_eq (λ (e : RrKey × RRset). r e.0) more (IsDistinct-from_sorted key_cmp (keys_of more) sorted))
       ∙ lookup-filter-keys (key_eq q) r (r q) (λ k same. ap r (sym (key_same q k same))) more
 
-  found_made : (q : RrKey) → lookup (key_eq q) made.entries ≡ cond (not (stands q)) (lookup (key_eq q) more) None
+  found_made : (q : RrKey) → lookup (key_eq q) made ≡ cond (not (stands q)) (lookup (key_eq q) more) None
   found_made q = ap (lookup (key_eq q)) is_fresh ∙ lookup-filter-keys (key_eq q) (λ k. not (stands k)) (not (stands q)) (λ k same. ap (λ x. not (stands x)) (sym (key_same q k same))) more
 
-  ordered_made : IsStrictlySortedBy key_cmp (keys_of made.entries)
+  ordered_made : IsStrictlySortedBy key_cmp (keys_of made)
   ordered_made = subst (λ (es : Sets). IsStrictlySortedBy key_cmp (keys_of es)) (sym is_fresh) (sorted_filter (λ k. not (stands k)) more sorted)
 
   -- each is found
-  pub found_put : (sets after : BTreeMap RrKey RRset) → sets.entries ≡ with_exchanged had common → InsertsAll key_cmp sets made.entries after
-      → (q : RrKey) → lookup (key_eq q) after.entries ≡ option_or (lookup (key_eq q) more) (lookup (key_eq q) had)
+  pub found_put : (sets after : Sets) → sets ≡ with_exchanged had common → InsertsSets sets made after
+      → (q : RrKey) → lookup (key_eq q) after ≡ option_or (lookup (key_eq q) more) (lookup (key_eq q) had)
   found_put sets after exchanged inserts q =
       inserts.0 q
-      ∙ update_all_or made.entries (λ k. lookup (key_eq k) sets.entries) nothing (lookup (key_eq q) sets.entries) q refl
-      ∙ ap (λ o. option_or o (lookup (key_eq q) sets.entries))
-      (update_all_none (eq_by_cmp_equiv key_cmp_total) key_eq (λ x y. refl) made.entries q (IsDistinct-from_sorted key_cmp (keys_of made.entries) ordered_made) ∙ found_made q)
+      ∙ update_all_or made (λ k. lookup (key_eq k) sets) nothing (lookup (key_eq q) sets) q refl
+      ∙ ap (λ o. option_or o (lookup (key_eq q) sets))
+      (update_all_none (eq_by_cmp_equiv key_cmp_total) key_eq (λ x y. refl) made q (IsDistinct-from_sorted key_cmp (keys_of made) ordered_made) ∙ found_made q)
       ∙ ap (λ (n : Sets). option_or (cond (not (stands q)) (lookup (key_eq q) more) None) (lookup (key_eq q) n)) exchanged
       ∙ by (stands q) refl
     where
@@ -260,40 +260,40 @@ module _ (had more common : Sets) (sorted : IsStrictlySortedBy key_cmp (keys_of 
           ap (option_or (lookup (key_eq q) more)) (none_still ∙ sym none)
 
   -- and taking out those that were added leaves the others, if all came in or only some
-  pub taken_out : (sets after rest : BTreeMap RrKey RRset) (added : List RrKey) → sets.entries ≡ with_exchanged had common → IsStrictlySortedBy key_cmp (keys_of sets.entries)
-      → MovesPrefix key_cmp sets made after rest → added ≡ keys_of made.entries → without_all after.entries added ≡ sets.entries
+  pub taken_out : (sets after rest : Sets) (added : List RrKey) → sets ≡ with_exchanged had common → IsStrictlySortedBy key_cmp (keys_of sets)
+      → MovesSets sets made after rest → added ≡ keys_of made → without_all after added ≡ sets
   taken_out sets after rest added exchanged ordered (xs, parts, inserts) keys =
-      same_entries (without_all after.entries added) sets.entries (sorted_without_all after.entries added inserts.1) ordered same
+      same_entries (without_all after added) sets (sorted_without_all after added inserts.1) ordered same
     where
-      same : (q : RrKey) → lookup (key_eq q) (without_all after.entries added) ≡ lookup (key_eq q) sets.entries
-      same q = found_without_all after.entries added q inserts.1 ∙ by (list_any (key_eq q) added) refl
+      same : (q : RrKey) → lookup (key_eq q) (without_all after added) ≡ lookup (key_eq q) sets
+      same q = found_without_all after added q inserts.1 ∙ by (list_any (key_eq q) added) refl
         where
           among : list_any (key_eq q) added ≡ (not (stands q) && list_any (key_eq q) (keys_of more))
           among =
               ap (list_any (key_eq q)) (keys ∙ ap keys_of is_fresh ∙ keys_of-filter (λ k. not (stands k)) more)
               ∙ any-filter_same (key_eq q) (λ k. not (stands k)) (not (stands q)) (λ k same. ap (λ x. not (stands x)) (sym (key_same q k same))) (keys_of more)
 
-          by : (b : Bool) → list_any (key_eq q) added ≡ b → cond b None (lookup (key_eq q) after.entries) ≡ lookup (key_eq q) sets.entries
+          by : (b : Bool) → list_any (key_eq q) added ≡ b → cond b None (lookup (key_eq q) after) ≡ lookup (key_eq q) sets
           by true g =
               let apart : stands q ≡ false = not_false (stands q) (first_true (not (stands q)) (list_any (key_eq q) (keys_of more)) (sym among ∙ g)) in
-              sym (none_of (lookup (key_eq q) sets.entries) (is_some-lookup (key_eq q) sets.entries ∙ ap (λ (n : Sets). list_any (key_eq q) (keys_of n)) exchanged ∙ ap (list_any (key_eq q)) (keys_exchanged had common) ∙ apart))
+              sym (none_of (lookup (key_eq q) sets) (is_some-lookup (key_eq q) sets ∙ ap (λ (n : Sets). list_any (key_eq q) (keys_of n)) exchanged ∙ ap (list_any (key_eq q)) (keys_exchanged had common) ∙ apart))
           by false g =
-              let whole : list_any (key_eq q) (keys_of made.entries) ≡ false =
-              sym (is_some-lookup (key_eq q) made.entries) ∙ ap is_some (found_made q) ∙ by_parts (not (stands q)) ∙ sym among ∙ g in
-              inserts.0 q ∙ update_all_apart xs (λ k. lookup (key_eq k) sets.entries) q (first_false (list_any (key_eq q) (keys_of xs)) (list_any (key_eq q) (keys_of rest.entries))
-              (sym (list_any-append (key_eq q) (keys_of xs) (keys_of rest.entries)) ∙ ap (list_any (key_eq q)) (sym (keys_of-append xs rest.entries) ∙ ap keys_of (sym parts)) ∙ whole))
+              let whole : list_any (key_eq q) (keys_of made) ≡ false =
+              sym (is_some-lookup (key_eq q) made) ∙ ap is_some (found_made q) ∙ by_parts (not (stands q)) ∙ sym among ∙ g in
+              inserts.0 q ∙ update_all_apart xs (λ k. lookup (key_eq k) sets) q (first_false (list_any (key_eq q) (keys_of xs)) (list_any (key_eq q) (keys_of rest))
+              (sym (list_any-append (key_eq q) (keys_of xs) (keys_of rest)) ∙ ap (list_any (key_eq q)) (sym (keys_of-append xs rest) ∙ ap keys_of (sym parts)) ∙ whole))
             where
               by_parts : (b : Bool) → is_some (cond b (lookup (key_eq q) more) None) ≡ (b && list_any (key_eq q) (keys_of more))
               by_parts true = is_some-lookup (key_eq q) more
               by_parts false = refl
 
-  pub are_put : (sets after : BTreeMap RrKey RRset) → sets.entries ≡ with_exchanged had common → InsertsAll key_cmp sets made.entries after → ArePut had more after.entries
+  pub are_put : (sets after : Sets) → sets ≡ with_exchanged had common → InsertsSets sets made after → ArePut had more after
   are_put sets after exchanged inserts = record { was_ordered = sorted; ordered = inserts.1; found = found_put sets after exchanged inserts }
 
   -- so once those are exchanged again that were, the sets are as they were
-  pub put_undone : (sets after : BTreeMap RrKey RRset) (added : List RrKey) (before : Sets) → sets.entries ≡ with_exchanged had common → IsStrictlySortedBy key_cmp (keys_of sets.entries)
-      → (rest : BTreeMap RrKey RRset) × MovesPrefix key_cmp sets made after rest → added ≡ keys_of made.entries → with_before sets.entries before ≡ had
-      → with_before (without_all after.entries added) before ≡ had
+  pub put_undone : (sets after : Sets) (added : List RrKey) (before : Sets) → sets ≡ with_exchanged had common → IsStrictlySortedBy key_cmp (keys_of sets)
+      → (rest : Sets) × MovesSets sets made after rest → added ≡ keys_of made → with_before sets before ≡ had
+      → with_before (without_all after added) before ≡ had
   put_undone sets after added before exchanged ordered (rest, moved) keys undone = ap (λ (n : Sets). with_before n before) (taken_out sets after rest added exchanged ordered moved keys) ∙ undone
 
 -- ---- the zone afterwards
@@ -305,3 +305,8 @@ IsZone-put_all had more after zone others put =
     by : (n : Name) (t : ℕ) (s : RRset) (o : Option RRset) → set_at more n t ≡ o → option_or o (set_at had n t) ≡ Some s → IsStoredAt n t s
     by n t s None g h = zone.stored n t s h
     by n t s (Some v) g h = others.stored n t s (g ∙ h)
+
+-- sets of which none is left were all put
+pub all_moved : (old more new rest : Sets) → MovesSets old more new rest → rest ≡ [] → InsertsSets old more new
+all_moved old more new rest (moved, parts, inserts) none =
+    subst (λ (es : Sets). InsertsSets old es new) (sym (append-nil moved) ∙ ap (λ (es : Sets). moved ++ es) (sym none) ∙ sym parts) inserts

@@ -1,6 +1,6 @@
 -- The insertion of a record into the set under its key
 use Rattle.std.proofs.Common.{arith, ◌≡◌, ◌≢◌, ◌==◌, ◌&&◌, not, ℕ, Bool, true, false, cond, List, [], ◌∷◌, ◌++◌, refl, sym, ap, ◌∙◌, subst, true≢false, Ordering, Less, Equal, Greater, Result, Ok, Err}
-use Rattle.std.specs.Prelude.{if◌then◌else◌, nat_lt, Option, Some, None, IsSome, IfOk, OnOk, OnErr, is_some, unwrap_or, option_map}
+use Rattle.std.specs.Prelude.{if◌then◌else◌, nat_lt, Option, Some, None, IsSome, OnOk, OnErr, is_some, unwrap_or, option_map, option_and_then}
 use Rattle.std.specs.BTreeMap.{insert_entry}
 use Rattle.std.specs.List.Sorted.{IsStrictlySortedBy}
 use Rattle.std.specs.Map.{keys_of, lookup, set_value}
@@ -9,7 +9,6 @@ use Rattle.std.proofs.lemmas.Cmp.{tied_itself}
 use Rattle.std.proofs.lemmas.Map.{lookup-none}
 use Rattle.std.proofs.lemmas.Map.Entries.{none_below_head}
 use Rattle.std.proofs.lemmas.Map.Keys.{sorted_tail}
-use Rattle.std.proofs.lemmas.Map.Steps.{set_value_same}
 use Rattle.zone_proto.specs.declared.error.ProtoError.{ProtoError}
 use Rattle.zone_proto.specs.declared.record.Record.{Record}
 use Rattle.zone_proto.specs.declared.rr_key.RrKey.{RrKey}
@@ -23,6 +22,7 @@ use Rattle.zone_proto.proofs.Ordering.KeyLaws.{key_cmp_total}
 use Rattle.zone_proto.proofs.SetLaws.{IsSet-inserted}
 use Rattle.zone_proto.proofs.Names.Tree.{name_order}
 use Rattle.zone_proto.specs.Results.{IsInsertion}
+use Rattle.zone_frozen.specs.Sets.{inserted_under}
 use Rattle.zone_map.specs.Zones.{Sets, set_at, put, IsStoredAt, IsZone}
 use Rattle.zone_map.specs.Upserts.{set_for, with_record, clashes, upserted}
 use Rattle.zone_map.proofs.Stored.{IsZone-put}
@@ -160,33 +160,15 @@ module _ (m : Sets) (r : Record) (serial : ℕ) (s : RRset) (found : set_at m (l
   with_stored : with_record m r serial ≡ option_map (put m (lower r.name) (type_of r.rdata)) (inserted s r serial)
   with_stored = ap (λ x. option_map (put m (lower r.name) (type_of r.rdata)) (inserted x r serial)) takes
 
-  pub stored_answer : (res : Result Bool ProtoError) → IfOk res (λ taken. taken ≡ is_some (inserted s r serial)) → IfOk res (λ taken. taken ≡ is_some (with_record m r serial))
-  stored_answer (Ok b) h = h ∙ sym (is_some-map (put m (lower r.name) (type_of r.rdata)) (inserted s r serial)) ∙ ap is_some (sym with_stored)
-  stored_answer (Err e) h = h
-
-  module _ (sorted : IsStrictlySortedBy key_cmp (keys_of m)) (w : RRset) where
-    kept : w ≡ s → set_value (key_eq (key (lower r.name) (type_of r.rdata))) m w ≡ m
-    kept e = set_value_same (key_eq (key (lower r.name) (type_of r.rdata))) m w (found ∙ ap Some (sym e))
-
-    pub stored_after : (res : Result Bool ProtoError) → OnOk res (w ≡ unwrap_or (inserted s r serial) s)
-        → OnOk res (set_value (key_eq (key (lower r.name) (type_of r.rdata))) m w ≡ unwrap_or (with_record m r serial) m)
-    stored_after (Err e) h = h
-    stored_after (Ok b) h = by (inserted s r serial) refl
-      where
-        by : (o : Option RRset) → inserted s r serial ≡ o → set_value (key_eq (key (lower r.name) (type_of r.rdata))) m w ≡ unwrap_or (with_record m r serial) m
-        by None e =
-            kept (h ∙ ap (λ p. unwrap_or p s) e)
-            ∙ sym (ap (λ p. unwrap_or (option_map (put m (lower r.name) (type_of r.rdata)) p) m) e)
-            ∙ sym (ap (λ p. unwrap_or p m) with_stored)
-        by (Some v) e =
-            set_is_put m (key (lower r.name) (type_of r.rdata)) w sorted (ap is_some found)
-            ∙ ap (put m (lower r.name) (type_of r.rdata)) (h ∙ ap (λ p. unwrap_or p s) e)
-            ∙ sym (ap (λ p. unwrap_or (option_map (put m (lower r.name) (type_of r.rdata)) p) m) e)
-            ∙ sym (ap (λ p. unwrap_or p m) with_stored)
-
-    pub stored_same : (res : Result Bool ProtoError) → OnErr res (w ≡ s) → OnErr res (set_value (key_eq (key (lower r.name) (type_of r.rdata))) m w ≡ m)
-    stored_same (Ok b) h = h
-    stored_same (Err e) h = kept h
+  -- what it makes of the sets is what an insertion into that set makes of them
+  pub stored_made : IsStrictlySortedBy key_cmp (keys_of m) → inserted_under r serial (key (lower r.name) (type_of r.rdata)) m ≡ with_record m r serial
+  stored_made sorted =
+      ap (λ o. option_map (set_value (key_eq (key (lower r.name) (type_of r.rdata))) m) (option_and_then (λ set. inserted set r serial) o)) found
+      ∙ by (inserted s r serial) ∙ sym with_stored
+    where
+      by : (o : Option RRset) → option_map (set_value (key_eq (key (lower r.name) (type_of r.rdata))) m) o ≡ option_map (put m (lower r.name) (type_of r.rdata)) o
+      by None = refl
+      by (Some v) = ap Some (set_is_put m (key (lower r.name) (type_of r.rdata)) v sorted (ap is_some found))
 
 -- ---- into a new set
 

@@ -43,7 +43,7 @@ pub(crate) fn at_name<'m>(
         owns_soa: false,
         first: None,
     };
-    for (key, set) in records.as_map().range(least..) {
+    for (key, set) in records.as_map().from(least) {
         here.first = here.first.or(Some(key));
         if key.name != least.name {
             break;

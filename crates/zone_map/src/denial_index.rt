@@ -12,9 +12,10 @@ ghost use Rattle.zone_map.specs.DenialOwners.{owners_of, indexed_owners, none_de
 ghost use Rattle.zone_map.specs.Zones.{Sets, owners, IsZone};
 
 use std::alloc::{AllocError, Global};
-use std::collections::{BTreeMap, BTreeSet};
+use std::collections::BTreeSet;
 use std::marker::Model;
-use zone_proto::{LowerName, ProtoError, RecordSet, RecordType, RrKey};
+use zone_frozen::SetMap;
+use zone_proto::{LowerName, ProtoError, RecordType, RrKey};
 
 /// The owners of the sets of either type of denial, in canonical order, kept beside the sets: the closest one to a name is found
 /// without a pass over the sets between them.
@@ -44,11 +45,8 @@ impl DenialIndex {
     }
 
     /// The owners in a map. Fails only for lack of memory.
-    pub(crate) fn of_map(
-        alloc: Global,
-        sets: &BTreeMap<RrKey, RecordSet>,
-    ) -> Result<DenialIndex, ProtoError>
-        ensures ok { IfOk result (λ index. index ≡ owners_of sets.now.entries) }
+    pub(crate) fn of_map(alloc: Global, sets: &SetMap) -> Result<DenialIndex, ProtoError>
+        ensures ok { IfOk result (λ index. index ≡ owners_of sets.now) }
         ensures err { IsOkUnless result ProtoError.Memory }
     {
         let (nsec, nsec3) = listed_owners(alloc, sets)?;
@@ -119,11 +117,11 @@ impl DenialIndex {
 /// The owners of the NSEC sets in a map and those of the NSEC3 sets, in one pass.
 fn listed_owners(
     alloc: Global,
-    sets: &BTreeMap<RrKey, RecordSet>,
+    sets: &SetMap,
 ) -> Result<(Vec<LowerName>, Vec<LowerName>), ProtoError>
-    ensures nsec { IfOk result (λ listed. listed.0.items ≡ owners sets.now.entries NSEC) }
-    ensures nsec3 { IfOk result (λ listed. listed.1.items ≡ owners sets.now.entries NSEC3) }
-    ensures ordered { IsStrictlySortedBy key_cmp (keys_of sets.now.entries) }
+    ensures nsec { IfOk result (λ listed. listed.0.items ≡ owners sets.now NSEC) }
+    ensures nsec3 { IfOk result (λ listed. listed.1.items ≡ owners sets.now NSEC3) }
+    ensures ordered { IsStrictlySortedBy key_cmp (keys_of sets.now) }
     ensures err { IsOkUnless result ProtoError.Memory }
 {
     let mut nsec = Vec::new(alloc);

@@ -9,40 +9,42 @@ ghost use Rattle.zone_proto.specs.Keys.{key_cmp, key_eq};
 ghost use Rattle.zone_proto.specs.Order.{is_upto};
 ghost use Rattle.zone_map.specs.Ahead.{ahead};
 
-use std::collections::BTreeMap;
-use std::collections::btree_map::Keys;
 use std::marker::Model;
-use zone_proto::{RecordSet, RrKey};
+use zone_frozen::SetRange;
+use zone_proto::RrKey;
 
 /// The keys of a map that are left in a pass over them beside other keys, which ascend as they do. Doesn't allocate.
 #[derive(Drop)]
 pub struct KeysAhead<'m> {
     /// None behind the last one.
     first: Option<&'m RrKey>,
-    others: Keys<'m, RrKey, RecordSet>,
+    others: SetRange<'m>,
 }
 
 impl<'m> Model for KeysAhead<'m> {
     ghost use Rattle.std.specs.Prelude.{List, option_copied};
     ghost use Rattle.std.specs.List.Sorted.{IsStrictlySortedBy};
+    ghost use Rattle.std.specs.Map.{keys_of};
     ghost use Rattle.zone_proto.specs.declared.rr_key.RrKey.{RrKey};
     ghost use Rattle.zone_proto.specs.Keys.{key_cmp};
     ghost use Rattle.zone_map.specs.Ahead.{ahead};
 
     ghost Value = { List RrKey };
 
-    ghost view = { λ a. ahead (option_copied a.first) a.others };
+    ghost view = { λ a. ahead (option_copied a.first) (keys_of a.others) };
 
-    ghost invariant = { λ a. IsStrictlySortedBy key_cmp (ahead (option_copied a.first) a.others) };
+    ghost invariant = { λ a.
+        IsStrictlySortedBy key_cmp (ahead (option_copied a.first) (keys_of a.others)) };
 }
 
 impl<'m> KeysAhead<'m> {
-    /// All keys of a map.
-    pub(crate) fn new(sets: &'m BTreeMap<RrKey, RecordSet>) -> KeysAhead<'m>
-        ensures { result ≡ keys_of sets.now.entries }
+    /// The keys of these sets.
+    pub(crate) fn new(sets: SetRange<'m>) -> KeysAhead<'m>
+        requires { IsStrictlySortedBy key_cmp (keys_of sets) }
+        ensures { result ≡ keys_of sets.entry }
     {
-        let mut others = sets.keys();
-        let first = others.next();
+        let mut others = sets;
+        let first = next_key(&mut others);
         KeysAhead { first, others }
     }
 
@@ -61,24 +63,36 @@ impl<'m> KeysAhead<'m> {
     }
 }
 
+/// The key of the next set.
+fn next_key<'m>(sets: &mut SetRange<'m>) -> Option<&'m RrKey>
+    ensures { ahead (option_copied result) (keys_of sets.new) ≡ keys_of sets.old }
+{
+    match sets.next() {
+        Some((key, _)) => Some(key),
+        None => None,
+    }
+}
+
 /// The first of these keys that doesn't come before another key. Those before it are passed.
 fn first_not_before<'m>(
     mut first: Option<&'m RrKey>,
-    others: &mut Keys<'m, RrKey, RecordSet>,
+    others: &mut SetRange<'m>,
     key: &RrKey,
 ) -> Option<&'m RrKey>
-    requires { IsStrictlySortedBy key_cmp (ahead (option_copied first) others.old) }
-    ensures ordered { IsStrictlySortedBy key_cmp (ahead (option_copied result) others.new) }
+    requires { IsStrictlySortedBy key_cmp (ahead (option_copied first) (keys_of others.old)) }
+    ensures ordered { IsStrictlySortedBy key_cmp
+        (ahead (option_copied result) (keys_of others.new)) }
     ensures same { (q : Key) → is_upto key_cmp key.now q ≡ true
-        → list_any (key_eq q) (ahead (option_copied result) others.new)
-        ≡ list_any (key_eq q) (ahead (option_copied first.entry) others.old) }
+        → list_any (key_eq q) (ahead (option_copied result) (keys_of others.new))
+        ≡ list_any (key_eq q) (ahead (option_copied first.entry)
+        (keys_of others.old)) }
     ensures first { IfSome result (λ k. is_upto key_cmp key.now k.now ≡ true) }
 {
     while let Some(next) = first {
         if key.cmp(next).is_le() {
             break;
         }
-        first = others.next();
+        first = next_key(others);
     }
     first
 }

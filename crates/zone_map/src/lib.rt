@@ -24,3 +24,4 @@ pub use denial_owners::{DenialOwners, LastOwners};
 pub use keys_ahead::KeysAhead;
 pub use new_sets::NewSets;
 pub use record_map::{RecordMap, Replaced, is_denial_type};
+pub use zone_frozen::{SetMap, SetRange};

@@ -10,6 +10,7 @@ use crate::keys_ahead::KeysAhead;
 use std::alloc::{AllocError, Global};
 use std::collections::BTreeMap;
 use std::marker::Model;
+use zone_frozen::SetRange;
 use zone_proto::{ProtoError, RecordSet, RrKey};
 
 /// Record sets by their keys, to be put into a record map together. They have no index: that of the map tells of them once they
@@ -58,7 +59,7 @@ impl NewSets {
     pub fn keys_ahead(&self) -> KeysAhead<'_>
         ensures { result ≡ keys_of self.now }
     {
-        KeysAhead::new(&self.sets)
+        KeysAhead::new(SetRange::of_map(&self.sets))
     }
 
     /// Whether there are no sets. Doesn't allocate.

@@ -15,9 +15,10 @@ ghost use Rattle.zone_map.specs.Zones.{Sets, types_at, IsZone};
 use crate::denial_index::{DenialIndex, collect_names, insert_owner};
 use crate::record_map::is_denial_type;
 use std::alloc::Global;
-use std::collections::{BTreeMap, BTreeSet};
+use std::collections::BTreeSet;
 use std::marker::Model;
-use zone_proto::{LowerName, ProtoError, RecordSet, RecordType, RrKey};
+use zone_frozen::SetMap;
+use zone_proto::{LowerName, ProtoError, RecordType, RrKey};
 
 /// The owners of the sets of denial and, if there are any, those of the other sets: so one owner is read to find out whether a name or a
 /// name below it owns another set, however many names there own sets of denial alone.
@@ -48,11 +49,8 @@ impl OwnerIndex {
     }
 
     /// The owners in a map. Fails only for lack of memory.
-    pub(crate) fn of_map(
-        alloc: Global,
-        sets: &BTreeMap<RrKey, RecordSet>,
-    ) -> Result<OwnerIndex, ProtoError>
-        ensures ok { IfOk result (λ index. index ≡ listed_of sets.now.entries) }
+    pub(crate) fn of_map(alloc: Global, sets: &SetMap) -> Result<OwnerIndex, ProtoError>
+        ensures ok { IfOk result (λ index. index ≡ listed_of sets.now) }
         ensures err { IsOkUnless result ProtoError.Memory }
     {
         let denials = DenialIndex::of_map(alloc, sets)?;
@@ -74,14 +72,10 @@ impl OwnerIndex {
     }
 
     /// Takes in the owner of a key that is put into the map of these sets. Fails only for lack of memory, which changes nothing.
-    pub(crate) fn insert(
-        &mut self,
-        key: &RrKey,
-        sets: &BTreeMap<RrKey, RecordSet>,
-    ) -> Result<(), ProtoError>
+    pub(crate) fn insert(&mut self, key: &RrKey, sets: &SetMap) -> Result<(), ProtoError>
         ensures ok { OnOk result
-            ((set : RRset) → IsZone sets.now.entries → self.old ≡ listed_of sets.now.entries
-            → self.new ≡ listed_of (insert_entry key_cmp sets.now.entries key.now set)) }
+            ((set : RRset) → IsZone sets.now → self.old ≡ listed_of sets.now
+            → self.new ≡ listed_of (insert_entry key_cmp sets.now key.now set)) }
         ensures err { IsOkUnless result ProtoError.Memory }
         ensures same { OnErr result (self.new ≡ self.old) }
     {
@@ -114,10 +108,10 @@ impl OwnerIndex {
     }
 
     /// Takes out the owner of a key that was taken out of the map, which now has these sets. Doesn't allocate.
-    pub(crate) fn remove(&mut self, key: RrKey, sets: &BTreeMap<RrKey, RecordSet>)
+    pub(crate) fn remove(&mut self, key: RrKey, sets: &SetMap)
         ensures { (had : Sets) → IsZone had → self.old ≡ listed_of had
-            → sets.now.entries ≡ remove_entry (key_eq key) had
-            → self.new ≡ listed_of sets.now.entries }
+            → sets.now ≡ remove_entry (key_eq key) had
+            → self.new ≡ listed_of sets.now }
     {
         if is_denial_type(key.record_type) {
             self.denials.remove(&key);
@@ -163,11 +157,8 @@ impl OwnerIndex {
 }
 
 /// The owners of sets of types other than those of denial. Fails only for lack of memory.
-fn other_owners(
-    alloc: Global,
-    sets: &BTreeMap<RrKey, RecordSet>,
-) -> Result<BTreeSet<LowerName>, ProtoError>
-    ensures ok { IfOk result (λ names. names.keys ≡ other_owners sets.now.entries) }
+fn other_owners(alloc: Global, sets: &SetMap) -> Result<BTreeSet<LowerName>, ProtoError>
+    ensures ok { IfOk result (λ names. names.keys ≡ other_owners sets.now) }
     ensures err { IsOkUnless result ProtoError.Memory }
 {
     let names = other_names(alloc, sets)?;
@@ -175,12 +166,9 @@ fn other_owners(
 }
 
 /// These owners, in one pass. Fails only for lack of memory.
-fn other_names(
-    alloc: Global,
-    sets: &BTreeMap<RrKey, RecordSet>,
-) -> Result<Vec<LowerName>, ProtoError>
-    ensures names { IfOk result (λ names. HasOwners names.items sets.now.entries) }
-    ensures ordered { IsStrictlySortedBy key_cmp (keys_of sets.now.entries) }
+fn other_names(alloc: Global, sets: &SetMap) -> Result<Vec<LowerName>, ProtoError>
+    ensures names { IfOk result (λ names. HasOwners names.items sets.now) }
+    ensures ordered { IsStrictlySortedBy key_cmp (keys_of sets.now) }
     ensures err { IsOkUnless result ProtoError.Memory }
 {
     let mut names: Vec<LowerName> = Vec::new(alloc);
@@ -204,12 +192,12 @@ fn is_last(names: &[LowerName], name: &LowerName) -> bool
 }
 
 /// Whether the name of its least key, that of type 0, owns a set of a type other than those of denial. At most three keys are read.
-fn owns_other(sets: &BTreeMap<RrKey, RecordSet>, least: &RrKey) -> bool
+fn owns_other(sets: &SetMap, least: &RrKey) -> bool
     requires { least.now.record_type.0 ≡ 0 }
     ensures { result
-        ≡ list_any (λ t. not (is_denial_type t)) (types_at sets.now.entries least.now.name) }
+        ≡ list_any (λ t. not (is_denial_type t)) (types_at sets.now least.now.name) }
 {
-    for (key, _) in sets.range(least..) {
+    for (key, _) in sets.from(least) {
         if key.name != least.name {
             break;
         }

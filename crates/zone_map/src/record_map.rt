@@ -22,15 +22,15 @@ use crate::counter::Reads;
 use crate::owner_index::OwnerIndex;
 pub use puts::Replaced;
 use std::alloc::Global;
-use std::collections::BTreeMap;
 use std::marker::Model;
+use zone_frozen::SetMap;
 use zone_proto::{DNSClass, LowerName, ProtoError, Record, RecordSet, RecordType, RrKey};
 
 /// The record sets of a zone by their keys, and an index of the owners of its sets of denial and, if it has any, of the owners of its
 /// other sets.
 #[derive(Drop)]
 pub struct RecordMap {
-    sets: BTreeMap<RrKey, RecordSet>,
+    sets: SetMap,
     index: OwnerIndex,
 }
 
@@ -40,9 +40,9 @@ impl Model for RecordMap {
 
     ghost Value = { Sets };
 
-    ghost view = { λ m. m.sets.entries };
+    ghost view = { λ m. m.sets };
 
-    ghost invariant = { λ m. IsIndexed m.sets.entries m.index };
+    ghost invariant = { λ m. IsIndexed m.sets m.index };
 }
 
 /// What a name's first keys say of a record that is to be inserted there.
@@ -60,15 +60,15 @@ impl RecordMap {
         ensures { result ≡ [] }
     {
         RecordMap {
-            sets: BTreeMap::new(alloc),
+            sets: SetMap::new(alloc),
             index: OwnerIndex::new(alloc),
         }
     }
 
-    /// The map itself, whose entries are in the order of their keys: names in canonical order (RFC 4034 section 6.1),
-    /// and of one name the types in order.
-    pub fn as_map(&self) -> &BTreeMap<RrKey, RecordSet>
-        ensures entries { result.now.entries ≡ self.now }
+    /// The sets by their keys, in the order of the keys: names in canonical order (RFC 4034 section 6.1), and of one name
+    /// the types in order.
+    pub fn as_map(&self) -> &SetMap
+        ensures entries { result.now ≡ self.now }
         ensures zone { IsZone self.now }
     {
         &self.sets
@@ -101,8 +101,7 @@ impl RecordMap {
         };
         match self.sets.insert(key, set) {
             Ok(before) => Ok(before),
-            Err(failed) => {
-                let (key, set) = failed.value;
+            Err((key, set)) => {
                 self.index.remove(key, &self.sets);
                 Err(set)
             }
@@ -114,7 +113,7 @@ impl RecordMap {
         ensures before { result ≡ set_at self.old key.now.name key.now.record_type.0 }
         ensures removed { self.new ≡ without self.old key.now.name key.now.record_type.0 }
     {
-        let (key, set) = self.sets.remove_entry(key)?;
+        let (key, set) = self.sets.remove(key)?;
         self.index.remove(key, &self.sets);
         Some(set)
     }
@@ -150,7 +149,7 @@ impl RecordMap {
         ensures owned { result ≡ owns_at_or_below self.now least.now.name }
         ensures counted { reads.new ≡ one_more_if (has_key_from self.now least.now.name) reads.old }
     {
-        match self.sets.range(least..).next() {
+        match self.sets.from(least).next() {
             Some((first, _)) => {
                 reads.add_one();
                 least.name.zone_of(&first.name)
@@ -190,7 +189,7 @@ impl RecordMap {
         ensures { result.0 ≡ any_type self.now least.now.name }
     {
         let mut first = None;
-        for (key, _) in self.sets.range(least..) {
+        for (key, _) in self.sets.from(least) {
             if key.name != least.name {
                 break;
             }
@@ -247,7 +246,7 @@ impl RecordMap {
             → owns self.now least.now.name record_type.0 ≡ false }
     {
         let mut is_there = false;
-        for (key, _) in self.sets.range(least..) {
+        for (key, _) in self.sets.from(least) {
             if key.name != least.name {
                 break;
             }
@@ -272,8 +271,8 @@ impl RecordMap {
         requires named { IsName (lower «record».name) }
         ensures { IsInsertion self.old (with_record self.old «record» serial) result self.new }
     {
-        match self.sets.get_mut(&key) {
-            Some(set) => set.insert(record, serial),
+        match self.sets.get(&key) {
+            Some(_) => self.sets.insert_record(&key, record, serial),
             None => self.insert_new(key, record, serial),
         }
     }

@@ -16,8 +16,8 @@ use crate::names::{has_name, is_at_or_above};
 use crate::node_sets::{NodeSets, node_sets_in, read_node_sets};
 use crate::response::{Part, Sent};
 use crate::steps::{Asked, part_for};
-use std::collections::btree_map::Range;
 use zone_lookup::InnerInMemory;
+use zone_map::SetRange;
 use zone_proto::{
     LowerName, Name, ProtoError, RData, Record, RecordSet, RecordType, RrKey, Signer,
 };
@@ -280,10 +280,10 @@ fn send_server<'z, S: Signer>(
     asked: Asked<'_>,
     child: &LowerName,
     host: &LowerName,
-    near: Option<Range<'z, RrKey, RecordSet>>,
+    near: Option<SetRange<'z>>,
     siblings: &mut Vec<Sent<'z>>,
     own: &mut Vec<Sent<'z>>,
-) -> Result<Option<Range<'z, RrKey, RecordSet>>, ProtoError>
+) -> Result<Option<SetRange<'z>>, ProtoError>
     requires { IfSome near (IsFromSome inner.now.records) }
     ensures siblings { OnOk result
         (sent_sets siblings.new
@@ -306,10 +306,10 @@ fn send_server<'z, S: Signer>(
 /// Puts the addresses of a server in the child last, and gives the sets of the zone from this server on.
 fn send_own<'z, S: Signer>(
     inner: &'z InnerInMemory<S>,
-    near: Option<Range<'z, RrKey, RecordSet>>,
+    near: Option<SetRange<'z>>,
     host: &LowerName,
     list: &mut Vec<Sent<'z>>,
-) -> Result<Range<'z, RrKey, RecordSet>, ProtoError>
+) -> Result<SetRange<'z>, ProtoError>
     requires { IfSome near (IsFromSome inner.now.records) }
     ensures ok { OnOk result
         (sent_sets list.new

@@ -5,9 +5,8 @@ ghost use Rattle.std.specs.Map.{keys_of};
 ghost use Rattle.zone_proto.specs.Keys.{key_cmp};
 ghost use Rattle.zone_response.specs.NodeSets.{sets_from, IsFromSome};
 
-use std::collections::BTreeMap;
-use std::collections::btree_map::Range;
-use zone_proto::{ProtoError, RecordSet, RrKey};
+use zone_map::{SetMap, SetRange};
+use zone_proto::{ProtoError, RrKey};
 
 // How many sets are passed over at most before a walk of the map looks for the key.
 const MAX_PASSED: usize = 8;
@@ -15,37 +14,37 @@ const MAX_PASSED: usize = 8;
 /// The sets of a map from a key on; `near` are those from another key on, if one was read. No walk looks for the key where it
 /// stands close behind that one.
 pub(crate) fn sets_near<'z>(
-    sets: &'z BTreeMap<RrKey, RecordSet>,
-    near: Option<Range<'z, RrKey, RecordSet>>,
+    sets: &'z SetMap,
+    near: Option<SetRange<'z>>,
     least: &RrKey,
-) -> Result<Range<'z, RrKey, RecordSet>, ProtoError>
-    requires ordered { IsStrictlySortedBy key_cmp (keys_of sets.now.entries) }
-    requires near { IfSome near (IsFromSome sets.now.entries) }
-    ensures ok { IfOk result (λ from. from ≡ sets_from sets.now.entries least.now) }
+) -> Result<SetRange<'z>, ProtoError>
+    requires ordered { IsStrictlySortedBy key_cmp (keys_of sets.now) }
+    requires near { IfSome near (IsFromSome sets.now) }
+    ensures ok { IfOk result (λ from. from ≡ sets_from sets.now least.now) }
     ensures err { IsOkUnless result ProtoError.Memory }
 {
     let Some(near) = near else {
-        return Ok(sets.range(least..));
+        return Ok(sets.from(least));
     };
     let mut rest = near;
     let Some((key, _)) = rest.next() else {
-        return Ok(sets.range(least..));
+        return Ok(sets.from(least));
     };
     if key.cmp(least).is_ge() {
-        return Ok(sets.range(least..));
+        return Ok(sets.from(least));
     }
     passed_on(sets, rest, least)
 }
 
 /// The same where `rest` has all sets from that key on.
 fn passed_on<'z>(
-    sets: &'z BTreeMap<RrKey, RecordSet>,
-    rest: Range<'z, RrKey, RecordSet>,
+    sets: &'z SetMap,
+    rest: SetRange<'z>,
     least: &RrKey,
-) -> Result<Range<'z, RrKey, RecordSet>, ProtoError>
+) -> Result<SetRange<'z>, ProtoError>
     requires ordered { IsStrictlySortedBy key_cmp (keys_of rest) }
-    requires all { sets_from rest least.now ≡ sets_from sets.now.entries least.now }
-    ensures ok { IfOk result (λ from. from ≡ sets_from sets.now.entries least.now) }
+    requires all { sets_from rest least.now ≡ sets_from sets.now least.now }
+    ensures ok { IfOk result (λ from. from ≡ sets_from sets.now least.now) }
     ensures err { IsOkUnless result ProtoError.Memory }
 {
     let mut rest = rest;
@@ -58,5 +57,5 @@ fn passed_on<'z>(
             return Ok(here);
         }
     }
-    Ok(sets.range(least..))
+    Ok(sets.from(least))
 }

@@ -7,10 +7,9 @@ ghost use Rattle.zone_proto.specs.Names.{Name as NameLabels, IsAbove, IsAtOrAbov
 ghost use Rattle.zone_proto.specs.Order.{is_before, is_upto};
 ghost use Rattle.zone_response.specs.Neighbours.{IsInTree, NoneBelowLonger, NoLongerExists};
 
-use std::collections::BTreeMap;
 use zone_lookup::InnerInMemory;
-use zone_map::Counter;
-use zone_proto::{LowerName, RecordSet, RrKey, Signer};
+use zone_map::{Counter, SetMap};
+use zone_proto::{LowerName, RrKey, Signer};
 
 /// As many labels as an ancestor of a name has at most that exists. Two searches tell.
 pub(crate) fn existing_labels<S: Signer>(
@@ -31,34 +30,30 @@ pub(crate) fn existing_labels<S: Signer>(
 
 /// As many labels as an ancestor of a key's name has at most, of which a key before this one is, or of a name below it. One
 /// search tells: that for the last of these keys.
-pub(crate) fn labels_before(
-    sets: &BTreeMap<RrKey, RecordSet>,
-    key: &RrKey,
-    searches: &mut Counter,
-) -> usize
+pub(crate) fn labels_before(sets: &SetMap, key: &RrKey, searches: &mut Counter) -> usize
     ensures shorter { result ≤ length key.now.name - 1 }
-    ensures longest { NoneBelowLonger sets.now.entries key.now.name result
+    ensures longest { NoneBelowLonger sets.now key.now.name result
         (λ k. is_before key_cmp k key.now) }
-    ensures in_tree { IsInTree sets.now.entries key.now.name result }
+    ensures in_tree { IsInTree sets.now key.now.name result }
     ensures counted { searches.new ≤ searches.old + 1 }
 {
     searches.add_one();
-    match sets.range(..key).next_back() {
+    match sets.last_before(key) {
         Some((last, _)) => shared_above(&key.name, &last.name),
         None => 0,
     }
 }
 
 /// The same of the keys that aren't before it, by the first of them.
-fn labels_after(sets: &BTreeMap<RrKey, RecordSet>, key: &RrKey, searches: &mut Counter) -> usize
+fn labels_after(sets: &SetMap, key: &RrKey, searches: &mut Counter) -> usize
     ensures shorter { result ≤ length key.now.name - 1 }
-    ensures longest { NoneBelowLonger sets.now.entries key.now.name result
+    ensures longest { NoneBelowLonger sets.now key.now.name result
         (λ k. is_upto key_cmp key.now k) }
-    ensures in_tree { IsInTree sets.now.entries key.now.name result }
+    ensures in_tree { IsInTree sets.now key.now.name result }
     ensures counted { searches.new ≤ searches.old + 1 }
 {
     searches.add_one();
-    match sets.range(key..).next() {
+    match sets.from(key).next() {
         Some((first, _)) => shared_above(&key.name, &first.name),
         None => 0,
     }

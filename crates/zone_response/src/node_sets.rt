@@ -11,10 +11,8 @@ ghost use Rattle.zone_map.specs.Wildcards.{exists};
 ghost use Rattle.zone_map.specs.Zones.{set_at, IsZone};
 ghost use Rattle.zone_response.specs.NodeSets.{sets_from, StandsAt};
 
-use std::collections::BTreeMap;
-use std::collections::btree_map::Range;
 use zone_lookup::InnerInMemory;
-use zone_map::{Counter, is_denial_type};
+use zone_map::{Counter, SetMap, SetRange, is_denial_type};
 use zone_proto::{LowerName, ProtoError, RecordSet, RecordType, RrKey, Signer};
 
 /// The sets of three types that are at a name: NS, and two that are asked for; and the first key from the name's least
@@ -38,7 +36,7 @@ pub(crate) fn read_node_sets<'z, S: Signer>(
     ensures { StandsAt inner.now.records least.now.name first_asked.0 second_asked.0 result }
 {
     let sets = inner.as_map();
-    node_sets_in(sets, sets.range(least..), least, first_asked, second_asked)
+    node_sets_in(sets, sets.from(least), least, first_asked, second_asked)
 }
 
 /// What is at the zone's origin, of the types SOA and DNAME.
@@ -49,28 +47,35 @@ pub(crate) fn read_apex<'z, S: Signer>(
     ensures ok { IfOk result (StandsAt inner.now.records origin.now SOA DNAME) }
     ensures err { IsOkUnless result ProtoError.Memory }
 {
-    let key = RrKey::first_of(origin)?;
-    Ok(read_node_sets(inner, &key, RecordType::SOA, RecordType::DNAME))
+    let least = RrKey::first_of(origin)?;
+    let sets = inner.as_map();
+    Ok(node_sets_in(
+        sets,
+        sets.from_top(&least),
+        &least,
+        RecordType::SOA,
+        RecordType::DNAME,
+    ))
 }
 
 /// The same in a map of sets by their keys, by its sets from that key on.
 pub(crate) fn node_sets_in<'z>(
-    sets: &'z BTreeMap<RrKey, RecordSet>,
-    from: Range<'z, RrKey, RecordSet>,
+    sets: &'z SetMap,
+    from: SetRange<'z>,
     least: &RrKey,
     first_asked: RecordType,
     second_asked: RecordType,
 ) -> NodeSets<'z>
     requires least { least.now.record_type.0 ≡ 0 }
-    requires ordered { IsStrictlySortedBy key_cmp (keys_of sets.now.entries) }
-    requires from { from ≡ sets_from sets.now.entries least.now }
-    ensures ns { option_copied result.ns ≡ set_at sets.now.entries least.now.name NS }
-    ensures first_asked { option_copied result.first_asked ≡ set_at sets.now.entries least.now.name
+    requires ordered { IsStrictlySortedBy key_cmp (keys_of sets.now) }
+    requires from { from ≡ sets_from sets.now least.now }
+    ensures ns { option_copied result.ns ≡ set_at sets.now least.now.name NS }
+    ensures first_asked { option_copied result.first_asked ≡ set_at sets.now least.now.name
         first_asked.0 }
-    ensures second_asked { option_copied result.second_asked ≡ set_at sets.now.entries
+    ensures second_asked { option_copied result.second_asked ≡ set_at sets.now
         least.now.name second_asked.0 }
     ensures first { option_copied result.first
-        ≡ first_key_from sets.now.entries least.now.name }
+        ≡ first_key_from sets.now least.now.name }
 {
     let last = last_of(first_asked, second_asked);
     let mut here = NodeSets {

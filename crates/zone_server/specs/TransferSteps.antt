@@ -73,7 +73,7 @@ Halts q records waited waiting held_before held_after (halt.Stop stop) = Unit {0
 abbrev pub reply_kept : TransferReply → Reply
 reply_kept (replies.Code c) = by_code c
 reply_kept (replies.StartOfAuthority soa) = by_soa soa.now
-reply_kept (replies.Whole soa sets) = by_zone soa.now sets.now.entries
+reply_kept (replies.Whole soa sets) = by_zone soa.now sets.now
 
 -- the code of a reply, if it is one alone, has twelve bits
 abbrev pub HasSmallCode : TransferReply → Type 0

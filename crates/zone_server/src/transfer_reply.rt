@@ -13,7 +13,7 @@ use crate::transfer_policy::TransferPolicy;
 use crate::transport::Transport;
 use message_reading::{Query, read_first_authority};
 use std::alloc::{AllocError, Global};
-use std::collections::BTreeMap;
+use zone_map::SetMap;
 use zone_proto::{
     DNSClass, LowerName, Nsec3Hash, ProtoError, RData, Record, RecordSet, RecordType, ResponseCode,
     RrKey, Signer,
@@ -37,7 +37,7 @@ pub enum TransferReply<'z> {
     /// The zone's SOA alone.
     StartOfAuthority(&'z RecordSet),
     /// The zone with this SOA and these sets.
-    Whole(&'z RecordSet, &'z BTreeMap<RrKey, RecordSet>),
+    Whole(&'z RecordSet, &'z SetMap),
 }
 
 /// Whether a query is answered by a transfer: IXFR is, and AXFR over TCP. Over UDP AXFR isn't defined (RFC 5936 section
@@ -165,9 +165,9 @@ fn changes_reply<'z>(
     transport: Transport,
     serial: Option<u32>,
     soa: &'z RecordSet,
-    sets: &'z BTreeMap<RrKey, RecordSet>,
+    sets: &'z SetMap,
 ) -> TransferReply<'z>
-    ensures reply { reply_kept result ≡ changes_reply transport serial soa.now sets.now.entries }
+    ensures reply { reply_kept result ≡ changes_reply transport serial soa.now sets.now }
     ensures code { HasSmallCode result }
 {
     match serial {

@@ -13,9 +13,9 @@ use crate::waiting::{Stop, put_answer};
 use message_reading::Query;
 use message_writing::{Group, Response as Message, WriteError, write_front};
 use std::alloc::{AllocError, Global};
-use std::collections::BTreeMap;
 use std::io::Write;
-use zone_proto::{RecordSet, ResponseCode, RrKey};
+use zone_map::SetMap;
+use zone_proto::{RecordSet, ResponseCode};
 
 /// How many sets wait at most to be put into a message. A message of 65,535 octets mostly has fewer.
 const MOST_WAITING: usize = 4_096;
@@ -58,14 +58,14 @@ pub(crate) fn send_zone<W: Write>(
     alloc: Global,
     query: &Query,
     soa: &RecordSet,
-    sets: &BTreeMap<RrKey, RecordSet>,
+    sets: &SetMap,
     out: &mut Vec<u8>,
     answers: &mut Vec<u8>,
     output: &mut W,
 ) -> Result<(), Stop>
     ensures { OnOk result (Puts
-        (λ text. AreSentWhole query.now (groups_sent soa.now sets.now.entries) text
-        ⊎ AreBrokenOff query.now (groups_sent soa.now sets.now.entries) text)
+        (λ text. AreSentWhole query.now (groups_sent soa.now sets.now) text
+        ⊎ AreBrokenOff query.now (groups_sent soa.now sets.now) text)
         answers.old.items answers.new.items
         (W.contents output.old) (W.contents output.new)) }
 {
@@ -84,15 +84,15 @@ fn send_sets<W: Write>(
     alloc: Global,
     query: &Query,
     soa: &RecordSet,
-    sets: &BTreeMap<RrKey, RecordSet>,
+    sets: &SetMap,
     out: &mut Vec<u8>,
     answers: &mut Vec<u8>,
     output: &mut W,
 ) -> Result<(), Halt>
-    ensures sent { OnOk result (HasSentSets query.now (groups_sent soa.now sets.now.entries)
+    ensures sent { OnOk result (HasSentSets query.now (groups_sent soa.now sets.now)
         answers.old.items answers.new.items
         (W.contents output.old) (W.contents output.new)) }
-    ensures halted { IfErr result (Halts query.now (joined (groups_sent soa.now sets.now.entries))
+    ensures halted { IfErr result (Halts query.now (joined (groups_sent soa.now sets.now))
         answers.old.items answers.new.items
         (W.contents output.old) (W.contents output.new)) }
 {

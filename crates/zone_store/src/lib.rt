@@ -26,4 +26,4 @@ pub mod program {
 
 pub use zone_in_memory::{InMemoryZoneHandler, PutRefused, laws};
 pub use zone_lookup::{Found, InnerInMemory, NoSigner, Searches, ZoneError};
-pub use zone_map::{Counter, DenialOwners, Reads};
+pub use zone_map::{Counter, DenialOwners, Reads, SetMap, SetRange};

@@ -75,7 +75,7 @@ impl RecordMap {
             (λ last. set_at self.now last.0.now key.now.record_type.0 ≡ Some last.1.now) }
         ensures zone { IsZone self.now }
     {
-        let (last, set) = self.sets.range(..=key).next_back()?;
+        let (last, set) = self.sets.last_upto(key)?;
         if last.record_type != key.record_type {
             return None;
         }

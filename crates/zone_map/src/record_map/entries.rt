@@ -3,12 +3,11 @@ ghost use Rattle.std.specs.Prelude.{◌≡◌, length};
 ghost use Rattle.zone_map.specs.Zones.{AreStored, IsZone};
 
 use crate::record_map::RecordMap;
-use std::collections::btree_map::Iter;
-use zone_proto::{RecordSet, RrKey};
+use zone_frozen::SetRange;
 
 impl RecordMap {
     /// The sets by their keys, in the order of the keys. Doesn't allocate.
-    pub fn iter(&self) -> Iter<'_, RrKey, RecordSet>
+    pub fn iter(&self) -> SetRange<'_>
         ensures rest { result ≡ self.now }
         ensures zone { IsZone self.now }
         ensures stored { AreStored self.now }

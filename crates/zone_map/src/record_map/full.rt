@@ -1,14 +1,15 @@
 //! Record maps whose nodes are full.
 ghost use Rattle.std.specs.Prelude.{◌≡◌, IfOk, IsOkUnless};
-ghost use Rattle.std.specs.BTreeMap.{IsFromIterResult};
+ghost use Rattle.std.specs.List.Sorted.{IsStrictlySortedBy};
+ghost use Rattle.std.specs.Map.{keys_of};
 ghost use Rattle.zone_proto.specs.Keys.{key_cmp};
-ghost use Rattle.zone_map.specs.Zones.{IsZone};
+ghost use Rattle.zone_map.specs.Zones.{AreStored, IsZone};
 
 use crate::new_sets::NewSets;
 use crate::owner_index::OwnerIndex;
 use crate::record_map::RecordMap;
-use std::alloc::{AllocError, Global};
-use std::collections::BTreeMap;
+use std::alloc::Global;
+use zone_frozen::SetMap;
 use zone_proto::{ProtoError, RecordSet, RrKey};
 
 impl RecordMap {
@@ -19,7 +20,19 @@ impl RecordMap {
         ensures zone { IsZone sets }
         ensures err { IsOkUnless result ProtoError.Memory }
     {
-        RecordMap::with_index(alloc, sets.into_map())
+        RecordMap::with_index(alloc, SetMap::of_map(sets.into_map()))
+    }
+
+    /// The map of the sets of a list in the order of their keys, which stay in that list until others are put in. Fails only
+    /// for lack of memory.
+    pub fn from_rows(alloc: Global, rows: Vec<(RrKey, RecordSet)>) -> Result<RecordMap, ProtoError>
+        requires ordered { IsStrictlySortedBy key_cmp (keys_of rows.items) }
+        requires stored { AreStored rows.items }
+        ensures ok { IfOk result (λ map. map ≡ rows.items) }
+        ensures zone { IsZone rows.items }
+        ensures err { IsOkUnless result ProtoError.Memory }
+    {
+        RecordMap::with_index(alloc, SetMap::of_rows(alloc, rows)?)
     }
 
     /// The same map with full nodes, for one that was filled in the order of the keys. While it is made, a list of its
@@ -31,26 +44,16 @@ impl RecordMap {
         let RecordMap { sets, index } = self;
         // What it takes is free for the nodes then.
         drop(index);
-        RecordMap::with_index(alloc, refilled(alloc, sets)?)
+        RecordMap::with_index(alloc, sets.compacted(alloc)?)
     }
 
     /// The map of these sets and the index of their owners.
-    fn with_index(alloc: Global, sets: BTreeMap<RrKey, RecordSet>) -> Result<RecordMap, ProtoError>
-        requires { IsZone sets.entries }
-        ensures ok { IfOk result (λ map. map ≡ sets.entries) }
+    fn with_index(alloc: Global, sets: SetMap) -> Result<RecordMap, ProtoError>
+        requires { IsZone sets }
+        ensures ok { IfOk result (λ map. map ≡ sets) }
         ensures err { IsOkUnless result ProtoError.Memory }
     {
         let index = OwnerIndex::of_map(alloc, &sets)?;
         Ok(RecordMap { sets, index })
     }
-}
-
-/// The same sets in full nodes.
-fn refilled(
-    alloc: Global,
-    sets: BTreeMap<RrKey, RecordSet>,
-) -> Result<BTreeMap<RrKey, RecordSet>, AllocError>
-    ensures { IfOk result (λ made. IsFromIterResult key_cmp sets.entries made) }
-{
-    sets.into_iter().collect(alloc)
 }

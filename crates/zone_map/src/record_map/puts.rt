@@ -1,14 +1,13 @@
 //! Sets that are put into the record map together, and taken out again.
 ghost use Rattle.std.specs.Prelude.{◌≡◌, ℕ, ◌+◌, ◌≤◌, Bool, not, List, [], ◌∷◌, filter, Some, MatchOption, IsTrue, IfSome, IfOk, OnOk, OnErr, IsOkUnless, option_map, unwrap_or, vec_len, vec_capacity};
-ghost use Rattle.std.specs.BTreeMap.{BTreeMap as Tree, InsertsAll, MovesPrefix};
 ghost use Rattle.std.specs.List.{list_any};
 ghost use Rattle.std.specs.List.Sorted.{IsStrictlySortedBy};
 ghost use Rattle.std.specs.Map.{keys_of};
 ghost use Rattle.std.specs.Option.{option_or, IfNone};
 ghost use Rattle.zone_proto.specs.declared.rr_key.RrKey.{RrKey as Key};
 ghost use Rattle.zone_proto.specs.Keys.{key_cmp, key_eq};
-ghost use Rattle.zone_proto.specs.Sets.{RRset};
 ghost use Rattle.zone_proto.specs.Names.{Name};
+ghost use Rattle.zone_frozen.specs.Sets.{InsertsSets, MovesSets};
 ghost use Rattle.zone_map.specs.DenialOwners.{listed_of};
 ghost use Rattle.zone_map.specs.Puts.{with_exchanged, with_before, without_all, without_denials, without_added, Restores};
 ghost use Rattle.zone_map.specs.Zones.{Sets, set_at, IsZone};
@@ -21,6 +20,7 @@ use std::alloc::Global;
 use std::collections::BTreeMap;
 use std::marker::Model;
 use std::mem::replace;
+use zone_frozen::SetMap;
 use zone_proto::{ProtoError, RecordSet, RrKey};
 
 /// What was in a record map before sets were put into it. With it they are taken out again, which doesn't allocate.
@@ -142,15 +142,15 @@ impl RecordMap {
 /// Parts sets by whether others are under their keys, which are copied. Where none do, the map stays as it is.
 fn part_by_keys(
     alloc: Global,
-    sets: &BTreeMap<RrKey, RecordSet>,
+    sets: &SetMap,
     more: BTreeMap<RrKey, RecordSet>,
 ) -> Result<Parted, ProtoError>
     ensures common { IfOk result
         (λ parted. parted.common.items
-        ≡ filter (λ e. list_any (key_eq e.0) (keys_of sets.now.entries)) more.entries) }
+        ≡ filter (λ e. list_any (key_eq e.0) (keys_of sets.now)) more.entries) }
     ensures fresh { IfOk result
         (λ parted. parted.fresh.entries
-        ≡ filter (λ e. not (list_any (key_eq e.0) (keys_of sets.now.entries))) more.entries) }
+        ≡ filter (λ e. not (list_any (key_eq e.0) (keys_of sets.now))) more.entries) }
     ensures added { IfOk result
         (λ parted. option_map (λ keys. keys.items) parted.added
         ≡ Some (keys_of parted.fresh.entries)) }
@@ -188,17 +188,17 @@ fn are_denials(sets: &BTreeMap<RrKey, RecordSet>) -> bool
 /// The keys of a map under which no sets are in another one: one pass over both maps.
 fn absent_keys(
     alloc: Global,
-    sets: &BTreeMap<RrKey, RecordSet>,
+    sets: &SetMap,
     more: &BTreeMap<RrKey, RecordSet>,
 ) -> Result<Vec<RrKey>, ProtoError>
     ensures ok { IfOk result
         (λ keys. keys.items
-        ≡ filter (λ k. not (list_any (key_eq k) (keys_of sets.now.entries)))
+        ≡ filter (λ k. not (list_any (key_eq k) (keys_of sets.now)))
         (keys_of more.now.entries)) }
     ensures err { IsOkUnless result ProtoError.Memory }
 {
     let mut absent = Vec::new(alloc);
-    let mut ahead = KeysAhead::new(sets);
+    let mut ahead = KeysAhead::new(sets.iter());
     for key in more.keys() {
         if !ahead.has(key) {
             absent.push(key.clone()?)?;
@@ -251,20 +251,20 @@ fn behind<'k>(keys: &'k [RrKey], key: &RrKey) -> Option<&'k [RrKey]>
 
 /// Puts sets in place of those that are under their keys, which go behind those of `exchanged`, where there is room.
 fn exchange(
-    sets: &mut BTreeMap<RrKey, RecordSet>,
+    sets: &mut SetMap,
     common: Vec<(RrKey, RecordSet)>,
     exchanged: &mut Vec<(RrKey, RecordSet)>,
 )
     requires room { vec_len exchanged.old + vec_len common ≤ vec_capacity exchanged.old }
-    requires ordered { IsStrictlySortedBy key_cmp (keys_of sets.old.entries) }
-    ensures put { sets.new.entries ≡ with_exchanged sets.old.entries common.items }
-    ensures before { with_before sets.new.entries exchanged.new.items
-        ≡ with_before sets.old.entries exchanged.old.items }
-    ensures ordered { IsStrictlySortedBy key_cmp (keys_of sets.new.entries) }
+    requires ordered { IsStrictlySortedBy key_cmp (keys_of sets.old) }
+    ensures put { sets.new ≡ with_exchanged sets.old common.items }
+    ensures before { with_before sets.new exchanged.new.items
+        ≡ with_before sets.old exchanged.old.items }
+    ensures ordered { IsStrictlySortedBy key_cmp (keys_of sets.new) }
 {
     for (key, set) in common {
-        if let Some(stood) = sets.get_mut(&key) {
-            exchanged.push_reserved((key, replace(stood, set)));
+        if let Some(stood) = sets.replace(&key, set) {
+            exchanged.push_reserved((key, stood));
         }
     }
 }
@@ -273,16 +273,16 @@ fn exchange(
 /// its place.
 fn add(
     alloc: Global,
-    sets: &mut BTreeMap<RrKey, RecordSet>,
+    sets: &mut SetMap,
     index: &mut OwnerIndex,
     mut fresh: BTreeMap<RrKey, RecordSet>,
 ) -> Result<Option<OwnerIndex>, ProtoError>
-    requires { IsStrictlySortedBy key_cmp (keys_of sets.old.entries) }
-    ensures added { OnOk result (InsertsAll key_cmp sets.old fresh.entries sets.new) }
-    ensures moved { (rest : Tree Key RRset) × MovesPrefix key_cmp sets.old fresh sets.new rest }
+    requires { IsStrictlySortedBy key_cmp (keys_of sets.old) }
+    ensures added { OnOk result (InsertsSets sets.old fresh.entries sets.new) }
+    ensures moved { (rest : Sets) × MovesSets sets.old fresh.entries sets.new rest }
     ensures index { OnOk result
-        ((had : Sets) → keys_of sets.old.entries ≡ keys_of had → index.old ≡ listed_of had
-        → index.new ≡ listed_of sets.new.entries) }
+        ((had : Sets) → keys_of sets.old ≡ keys_of had → index.old ≡ listed_of had
+        → index.new ≡ listed_of sets.new) }
     ensures was { IfOk result (λ was. unwrap_or was index.new ≡ index.old) }
     ensures same { OnErr result (index.new ≡ index.old) }
     ensures err { IsOkUnless result ProtoError.Memory }
@@ -290,20 +290,16 @@ fn add(
     if fresh.is_empty() {
         return Ok(None);
     }
-    sets.append(&mut fresh)?;
+    sets.append(alloc, &mut fresh)?;
     // Of the merged map: while two maps are merged they take most memory, and no index is beside them.
     let made = OwnerIndex::of_map(alloc, sets)?;
     Ok(Some(replace(index, made)))
 }
 
 /// Takes out the sets that were added, and puts back those that were exchanged, the last one first.
-fn put_back(
-    sets: &mut BTreeMap<RrKey, RecordSet>,
-    added: Option<Vec<RrKey>>,
-    mut exchanged: Vec<(RrKey, RecordSet)>,
-)
-    ensures { sets.new.entries
-        ≡ with_before (without_added sets.old.entries (option_map (λ keys. keys.items) added))
+fn put_back(sets: &mut SetMap, added: Option<Vec<RrKey>>, mut exchanged: Vec<(RrKey, RecordSet)>)
+    ensures { sets.new
+        ≡ with_before (without_added sets.old (option_map (λ keys. keys.items) added))
         exchanged.items }
 {
     match added {
@@ -311,15 +307,13 @@ fn put_back(
         None => remove_denials(sets),
     }
     while let Some((key, stood)) = exchanged.pop() {
-        if let Some(set) = sets.get_mut(&key) {
-            *set = stood;
-        }
+        let _ = sets.replace(&key, stood);
     }
 }
 
 /// Takes out the sets under these keys.
-fn remove_all(sets: &mut BTreeMap<RrKey, RecordSet>, keys: Vec<RrKey>)
-    ensures { sets.new.entries ≡ without_all sets.old.entries keys.items }
+fn remove_all(sets: &mut SetMap, keys: Vec<RrKey>)
+    ensures { sets.new ≡ without_all sets.old keys.items }
 {
     for key in keys {
         let _ = sets.remove(&key);
@@ -327,8 +321,8 @@ fn remove_all(sets: &mut BTreeMap<RrKey, RecordSet>, keys: Vec<RrKey>)
 }
 
 /// Takes out all sets of denial.
-fn remove_denials(sets: &mut BTreeMap<RrKey, RecordSet>)
-    ensures { sets.new.entries ≡ without_denials sets.old.entries }
+fn remove_denials(sets: &mut SetMap)
+    ensures { sets.new ≡ without_denials sets.old }
 {
     sets.retain(|key, _| !is_denial_type(key.record_type));
 }

@@ -6,8 +6,8 @@ ghost use Rattle.zone_map.specs.Renewals.{with_signatures, stepped_under, IsHand
 ghost use Rattle.zone_map.specs.Zones.{IsZone};
 
 use crate::record_map::RecordMap;
-use std::collections::BTreeMap;
 use std::vec::IntoIter;
+use zone_frozen::SetMap;
 use zone_proto::{RecordSet, RrKey, Rrsigs};
 
 impl RecordMap {
@@ -23,20 +23,14 @@ impl RecordMap {
     {
         put_signatures(&mut self.sets, lists, exchanged);
         // One lookup waits for fewer keys, which stand elsewhere in memory, than a pass that asks each.
-        if let Some(set) = self.sets.get_mut(apex) {
-            set.step_serial();
-        }
+        self.sets.step_serial(apex);
     }
 }
 
 /// Puts signatures in place of those that sets have, in the order of the keys, of which none is looked at.
-fn put_signatures(
-    sets: &mut BTreeMap<RrKey, RecordSet>,
-    lists: Vec<Option<Rrsigs>>,
-    mut exchanged: Rrsigs,
-)
-    ensures { (made : List (List Signature)) → AreHanded sets.old.entries made lists.items exchanged
-        → sets.new.entries ≡ with_signatures sets.old.entries made }
+fn put_signatures(sets: &mut SetMap, lists: Vec<Option<Rrsigs>>, mut exchanged: Rrsigs)
+    ensures { (made : List (List Signature)) → AreHanded sets.old made lists.items exchanged
+        → sets.new ≡ with_signatures sets.old made }
 {
     let mut left = lists.into_iter();
     let mut next = 0;

@@ -4,7 +4,7 @@ ghost use Rattle.zone_map.specs.Standing.{with_serial};
 ghost use Rattle.zone_map.specs.Zones.{IsZone};
 
 use crate::record_map::RecordMap;
-use std::collections::BTreeMap;
+use zone_frozen::SetMap;
 use zone_proto::{RecordSet, RecordType, RrKey};
 
 impl RecordMap {
@@ -18,8 +18,8 @@ impl RecordMap {
 }
 
 /// Puts a serial in place of that of each set under a key of a type.
-fn put_serials(sets: &mut BTreeMap<RrKey, RecordSet>, record_type: RecordType, serial: u32)
-    ensures { sets.new.entries ≡ with_serial record_type.0 serial sets.old.entries }
+fn put_serials(sets: &mut SetMap, record_type: RecordType, serial: u32)
+    ensures { sets.new ≡ with_serial record_type.0 serial sets.old }
 {
     sets.retain(|key, set| {
         put_serial(key, set, record_type, serial);

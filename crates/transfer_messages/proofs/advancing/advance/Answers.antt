@@ -9,7 +9,7 @@ use Rattle.transfer_messages.proofs.advancing.advance.Goals as goal
 
 pub returns-in-Behind : goal.returns-in-Behind
 returns-in-Behind c =
-    let m = c.args.transfer.now.sets.now.entries in
+    let m = c.args.transfer.now.sets.now in
     let s = c.args.transfer.now.soa.now in
     let soa = records_together (soa_alone s) in
     let own = records_of c.soa_alone.result in

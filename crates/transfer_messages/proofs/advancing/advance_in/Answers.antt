@@ -9,7 +9,7 @@ use Rattle.transfer_messages.proofs.advancing.advance_in.Goals as goal
 
 pub loop-key-init : goal.loop-key-init
 loop-key-init c =
-    let m = c.args.transfer.now.sets.now.entries in
+    let m = c.args.transfer.now.sets.now in
     let soa = records_together (soa_alone c.args.transfer.now.soa.now) in
     let is = c.into_iter-key-iterator.ensures.into_iter_gives ∙ c.sets_ahead-key-items.ensures.value in
     record {
@@ -19,7 +19,7 @@ loop-key-init c =
 
 pub returns-in-Here : goal.returns-in-Here
 returns-in-Here c =
-    let m = c.args.transfer.now.sets.now.entries in
+    let m = c.args.transfer.now.sets.now in
     let soa = records_together (soa_alone c.args.transfer.now.soa.now) in
     let whole = drop c.args.further (drop c.args.passed (sets_records (ahead_of m (option_copied c.args.from)) ++ soa)) in
     place_here m c.loop-key.key-iterator c.next.new.self (c.in-Some.key.now, c.in-Some.set.now) c.in-Some.ensures.steps soa (records_of c.between.result) whole
@@ -28,7 +28,7 @@ returns-in-Here c =
 
 pub loop-key-preserved : goal.loop-key-preserved
 loop-key-preserved c =
-    let m = c.args.transfer.now.sets.now.entries in
+    let m = c.args.transfer.now.sets.now in
     let soa = records_together (soa_alone c.args.transfer.now.soa.now) in
     let whole = drop c.args.further (drop c.args.passed (sets_records (ahead_of m (option_copied c.args.from)) ++ soa)) in
     record {

@@ -10,6 +10,6 @@ abbrev pub invariant-loop-key : goal.invariant-loop-key
 invariant-loop-key l = record {
   left :
       drop l.count (drop l.sent (sets_records l.key-iterator ++ records_together (soa_alone l.transfer.soa.now)))
-      ≡ drop l.further (drop l.passed (sets_records (ahead_of l.transfer.sets.now.entries (option_copied l.from)) ++ records_together (soa_alone l.transfer.soa.now)));
-  tail : IsTailOf l.key-iterator l.transfer.sets.now.entries;
+      ≡ drop l.further (drop l.passed (sets_records (ahead_of l.transfer.sets.now (option_copied l.from)) ++ records_together (soa_alone l.transfer.soa.now)));
+  tail : IsTailOf l.key-iterator l.transfer.sets.now;
 }

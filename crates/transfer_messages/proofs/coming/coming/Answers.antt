@@ -10,7 +10,7 @@ use Rattle.transfer_messages.proofs.coming.coming.Goals.{in-Opening+in_ok-skip-i
 pub returns : goal.returns
 returns c =
     let s = c.args.transfer.now.soa.now in
-    let m = c.args.transfer.now.sets.now.entries in
+    let m = c.args.transfer.now.sets.now in
     let soa = records_together (soa_alone s) in
     let whole = left_at s m c.args.place.now in
     let none = c.new-groups.result.items in

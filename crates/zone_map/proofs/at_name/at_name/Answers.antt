@@ -41,7 +41,7 @@ at_least t u h = by (nat_cmp t u) refl h
 pub loop-key-init : goal.loop-key-init
 loop-key-init c =
     let first : c.into_iter-key-iterator.result ≡ from_key c.args.least.now c.args.records.now =
-    c.into_iter-key-iterator.ensures.into_iter_gives ∙ c.range-key-items.ensures.between tt ∙ ap (from_key c.args.least.now) c.as_map.ensures.entries in
+    c.into_iter-key-iterator.ensures.into_iter_gives ∙ c.from-key-items.ensures.sets ∙ ap (from_key c.args.least.now) c.as_map.ensures.entries in
     record {
       exact = ap (first_set (λ u. list_any (λ v. u == v) (types_for c.args.record_type.0)) c.args.least.now.name) first;
       ns = ap (first_set (λ u. NS == u) c.args.least.now.name) first;
@@ -49,7 +49,7 @@ loop-key-init c =
       first = ap front_key first;
       ascend =
           subst (λ es. Ascends (front_types c.args.least.now.name es)) (sym first)
-          (whole_ascends c.args.least.now c.args.records.now c.as_map.result.now.entries c.requires c.range-key-items.ensures.ordered c.as_map.ensures.entries);
+          (whole_ascends c.args.least.now c.args.records.now c.as_map.result.now c.requires c.from-key-items.ensures.ordered c.as_map.ensures.entries);
     }
 
 pub loop-key-preserved : goal.loop-key-preserved
@@ -75,17 +75,17 @@ pub returns-in-None-clause-exact : goal.returns-in-None-clause-exact
 returns-in-None-clause-exact c =
     alone (option_copied c.loop-key.here.exact) _ _
     (ap (first_set (λ u. list_any (λ v. u == v) (types_for c.args.record_type.0)) c.args.least.now.name) c.in-None.ensures.steps.0) c.loop-key.invariant.exact
-    ∙ whole_exact c.args.least.now c.args.records.now c.as_map.result.now.entries c.requires c.range-key-items.ensures.ordered c.as_map.ensures.entries c.args.record_type.0
+    ∙ whole_exact c.args.least.now c.args.records.now c.as_map.result.now c.requires c.from-key-items.ensures.ordered c.as_map.ensures.entries c.args.record_type.0
 
 pub returns-in-None-clause-ns : goal.returns-in-None-clause-ns
 returns-in-None-clause-ns c =
     alone (option_copied c.loop-key.here.ns) _ _ (ap (first_set (λ u. NS == u) c.args.least.now.name) c.in-None.ensures.steps.0) c.loop-key.invariant.ns
-    ∙ whole_type c.args.least.now c.args.records.now c.as_map.result.now.entries c.requires c.range-key-items.ensures.ordered c.as_map.ensures.entries NS
+    ∙ whole_type c.args.least.now c.args.records.now c.as_map.result.now c.requires c.from-key-items.ensures.ordered c.as_map.ensures.entries NS
 
 pub returns-in-None-clause-soa : goal.returns-in-None-clause-soa
 returns-in-None-clause-soa c =
     all_noted c.loop-key.here.owns_soa _ _ (ap (λ es. list_any (λ u. SOA == u) (front_types c.args.least.now.name es)) c.in-None.ensures.steps.0) c.loop-key.invariant.soa
-    ∙ front_is_whole (λ u. SOA == u) c.args.least.now c.args.records.now c.as_map.result.now.entries c.requires c.range-key-items.ensures.ordered c.as_map.ensures.entries
+    ∙ front_is_whole (λ u. SOA == u) c.args.least.now c.args.records.now c.as_map.result.now c.requires c.from-key-items.ensures.ordered c.as_map.ensures.entries
     ∙ type_listed c.args.records.now c.args.least.now.name SOA
 
 pub returns-then-ne-clause-exact : goal.returns-then-ne-clause-exact
@@ -94,21 +94,21 @@ returns-then-ne-clause-exact c =
     alone (option_copied c.loop-key.here.exact) _ _
     (first_over (λ u. list_any (λ v. u == v) (types_for c.args.record_type.0)) c.args.least.now.name _ c.next.new.self (c.in-Some.key.now, c.in-Some.set.now) c.in-Some.ensures.steps other)
     c.loop-key.invariant.exact
-    ∙ whole_exact c.args.least.now c.args.records.now c.as_map.result.now.entries c.requires c.range-key-items.ensures.ordered c.as_map.ensures.entries c.args.record_type.0
+    ∙ whole_exact c.args.least.now c.args.records.now c.as_map.result.now c.requires c.from-key-items.ensures.ordered c.as_map.ensures.entries c.args.record_type.0
 
 pub returns-then-ne-clause-ns : goal.returns-then-ne-clause-ns
 returns-then-ne-clause-ns c =
     let other : eq_by_cmp name_cmp c.in-Some.key.now.name c.args.least.now.name ≡ false = not_true _ (sym c.ne.ensures ∙ c.if-ne.true) in
     alone (option_copied c.loop-key.here.ns) _ _
     (first_over (λ u. NS == u) c.args.least.now.name _ c.next.new.self (c.in-Some.key.now, c.in-Some.set.now) c.in-Some.ensures.steps other) c.loop-key.invariant.ns
-    ∙ whole_type c.args.least.now c.args.records.now c.as_map.result.now.entries c.requires c.range-key-items.ensures.ordered c.as_map.ensures.entries NS
+    ∙ whole_type c.args.least.now c.args.records.now c.as_map.result.now c.requires c.from-key-items.ensures.ordered c.as_map.ensures.entries NS
 
 pub returns-then-ne-clause-soa : goal.returns-then-ne-clause-soa
 returns-then-ne-clause-soa c =
     let other : eq_by_cmp name_cmp c.in-Some.key.now.name c.args.least.now.name ≡ false = not_true _ (sym c.ne.ensures ∙ c.if-ne.true) in
     all_noted c.loop-key.here.owns_soa _ _
     (front_over (λ u. SOA == u) c.args.least.now.name _ c.next.new.self (c.in-Some.key.now, c.in-Some.set.now) c.in-Some.ensures.steps other) c.loop-key.invariant.soa
-    ∙ front_is_whole (λ u. SOA == u) c.args.least.now c.args.records.now c.as_map.result.now.entries c.requires c.range-key-items.ensures.ordered c.as_map.ensures.entries
+    ∙ front_is_whole (λ u. SOA == u) c.args.least.now c.args.records.now c.as_map.result.now c.requires c.from-key-items.ensures.ordered c.as_map.ensures.entries
     ∙ type_listed c.args.records.now c.args.least.now.name SOA
 
 pub returns-then-ge-clause-exact : goal.returns-then-ge-clause-exact
@@ -121,7 +121,7 @@ returns-then-ge-clause-exact c =
     (λ u. list_any (λ v. u == v) (types_for c.args.record_type.0)) (λ u h. c.last_awaited.ensures.exact none u (omega (arith, h, high))))
     (first_passed (λ u. list_any (λ v. u == v) (types_for c.args.record_type.0)) c.args.least.now.name _ c.next.new.self (c.in-Some.key.now, c.in-Some.set.now) (option_copied c.loop-key.here.exact) _ _
     c.in-Some.ensures.steps same c.with-here.ensures.exact c.loop-key.invariant.exact)
-    ∙ whole_exact c.args.least.now c.args.records.now c.as_map.result.now.entries c.requires c.range-key-items.ensures.ordered c.as_map.ensures.entries c.args.record_type.0
+    ∙ whole_exact c.args.least.now c.args.records.now c.as_map.result.now c.requires c.from-key-items.ensures.ordered c.as_map.ensures.entries c.args.record_type.0
 
 pub returns-then-ge-clause-ns : goal.returns-then-ge-clause-ns
 returns-then-ge-clause-ns c =
@@ -132,7 +132,7 @@ returns-then-ge-clause-ns c =
     (λ u. NS == u) (λ u h. later_differs NS u (omega (arith, h, high, c.last_awaited.ensures.known))))
     (first_passed (λ u. NS == u) c.args.least.now.name _ c.next.new.self (c.in-Some.key.now, c.in-Some.set.now) (option_copied c.loop-key.here.ns) _ _
     c.in-Some.ensures.steps same c.with-here.ensures.ns c.loop-key.invariant.ns)
-    ∙ whole_type c.args.least.now c.args.records.now c.as_map.result.now.entries c.requires c.range-key-items.ensures.ordered c.as_map.ensures.entries NS
+    ∙ whole_type c.args.least.now c.args.records.now c.as_map.result.now c.requires c.from-key-items.ensures.ordered c.as_map.ensures.entries NS
 
 pub returns-then-ge-clause-soa : goal.returns-then-ge-clause-soa
 returns-then-ge-clause-soa c =
@@ -143,7 +143,7 @@ returns-then-ge-clause-soa c =
     (λ u. SOA == u) (λ u h. later_differs SOA u (omega (arith, h, high, c.last_awaited.ensures.known))))
     (front_noted (λ u. SOA == u) c.args.least.now.name _ c.next.new.self (c.in-Some.key.now, c.in-Some.set.now) c.in-Some.ensures.steps c.loop-key.here.owns_soa _ _
     same c.with-here.ensures.soa c.loop-key.invariant.soa)
-    ∙ front_is_whole (λ u. SOA == u) c.args.least.now c.args.records.now c.as_map.result.now.entries c.requires c.range-key-items.ensures.ordered c.as_map.ensures.entries
+    ∙ front_is_whole (λ u. SOA == u) c.args.least.now c.args.records.now c.as_map.result.now c.requires c.from-key-items.ensures.ordered c.as_map.ensures.entries
     ∙ type_listed c.args.records.now c.args.least.now.name SOA
 
 pub returns-in-None-clause-first : goal.returns-in-None-clause-first

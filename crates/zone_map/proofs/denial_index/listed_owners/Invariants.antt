@@ -7,6 +7,6 @@ use Rattle.zone_map.proofs.denial_index.listed_owners.Given as goal
 abbrev pub invariant-loop-key : goal.invariant-loop-key
 invariant-loop-key l =
     record {
-      nsec : l.nsec.items ++ owners l.key-iterator NSEC ≡ owners l.sets.entries NSEC;
-      nsec3 : l.nsec3.items ++ owners l.key-iterator NSEC3 ≡ owners l.sets.entries NSEC3;
+      nsec : l.nsec.items ++ owners l.key-iterator NSEC ≡ owners l.sets NSEC;
+      nsec3 : l.nsec3.items ++ owners l.key-iterator NSEC3 ≡ owners l.sets NSEC3;
     }

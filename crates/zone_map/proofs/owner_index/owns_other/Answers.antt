@@ -17,17 +17,17 @@ returns-then-not-is_denial_type c =
     let same : eq_by_cmp name_cmp c.in-Some.key.now.name c.args.least.now.name ≡ true = not_false _ (sym c.ne.ensures ∙ c.if-ne.false) in
     front_noted (λ t. not (is_denial_type t)) c.args.least.now.name _ c.next.new.self (c.in-Some.key.now, c.in-Some.field-0-1.now) c.in-Some.ensures.steps false true _
     same (sym (ap not (sym c.is_denial_type.ensures ∙ c.if-not-is_denial_type.true))) c.loop-key.invariant
-    ∙ front_is_whole (λ t. not (is_denial_type t)) c.args.least.now c.args.sets.now.entries c.args.sets.now.entries c.requires c.range-key-items.ensures.ordered refl
+    ∙ front_is_whole (λ t. not (is_denial_type t)) c.args.least.now c.args.sets.now c.args.sets.now c.requires c.from-key-items.ensures.ordered refl
 
 pub returns-then-ne : goal.returns-then-ne
 returns-then-ne c =
     let other : eq_by_cmp name_cmp c.in-Some.key.now.name c.args.least.now.name ≡ false = not_true _ (sym c.ne.ensures ∙ c.if-ne.true) in
     sym (front_over (λ t. not (is_denial_type t)) c.args.least.now.name _ c.next.new.self (c.in-Some.key.now, c.in-Some.field-0-1.now) c.in-Some.ensures.steps other)
     ∙ c.loop-key.invariant
-    ∙ front_is_whole (λ t. not (is_denial_type t)) c.args.least.now c.args.sets.now.entries c.args.sets.now.entries c.requires c.range-key-items.ensures.ordered refl
+    ∙ front_is_whole (λ t. not (is_denial_type t)) c.args.least.now c.args.sets.now c.args.sets.now c.requires c.from-key-items.ensures.ordered refl
 
 pub returns-in-None : goal.returns-in-None
 returns-in-None c =
     sym (ap (λ es. list_any (λ t. not (is_denial_type t)) (front_types c.args.least.now.name es)) c.in-None.ensures.steps.0)
     ∙ c.loop-key.invariant
-    ∙ front_is_whole (λ t. not (is_denial_type t)) c.args.least.now c.args.sets.now.entries c.args.sets.now.entries c.requires c.range-key-items.ensures.ordered refl
+    ∙ front_is_whole (λ t. not (is_denial_type t)) c.args.least.now c.args.sets.now c.args.sets.now c.requires c.from-key-items.ensures.ordered refl

@@ -7,4 +7,4 @@ use Rattle.zone_response.proofs.cursor.passed_on.Given as goal
 
 -- all sets from the key on are left
 abbrev pub invariant-loop-count : goal.invariant-loop-count
-invariant-loop-count l = record { ordered : IsStrictlySortedBy key_cmp (keys_of l.rest); all : sets_from l.rest l.least ≡ sets_from l.sets.entries l.least }
+invariant-loop-count l = record { ordered : IsStrictlySortedBy key_cmp (keys_of l.rest); all : sets_from l.rest l.least ≡ sets_from l.sets l.least }

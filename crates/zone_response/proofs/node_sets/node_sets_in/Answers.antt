@@ -35,7 +35,7 @@ at_least t u h = by (nat_cmp t u) refl h
 
 pub loop-key-init : goal.loop-key-init
 loop-key-init c =
-    let first : c.into_iter-key-iterator.result ≡ from_key c.args.least.now c.args.sets.now.entries = c.into_iter-key-iterator.ensures.into_iter_gives ∙ c.requires.from in
+    let first : c.into_iter-key-iterator.result ≡ from_key c.args.least.now c.args.sets.now = c.into_iter-key-iterator.ensures.into_iter_gives ∙ c.requires.from in
     record {
       ns = ap (first_set (λ u. NS == u) c.args.least.now.name) first;
       first_asked = ap (first_set (λ u. c.args.first_asked.0 == u) c.args.least.now.name) first;
@@ -43,7 +43,7 @@ loop-key-init c =
       first = ap front_key first;
       ascend =
           subst (λ es. Ascends (front_types c.args.least.now.name es)) (sym first)
-          (whole_ascends c.args.least.now c.args.sets.now.entries c.args.sets.now.entries c.requires.least c.requires.ordered refl);
+          (whole_ascends c.args.least.now c.args.sets.now c.args.sets.now c.requires.least c.requires.ordered refl);
     }
 
 pub loop-key-preserved : goal.loop-key-preserved
@@ -68,38 +68,38 @@ loop-key-preserved c =
 pub returns-in-None-clause-ns : goal.returns-in-None-clause-ns
 returns-in-None-clause-ns c =
     alone (option_copied c.loop-key.here.ns) _ _ (ap (first_set (λ u. NS == u) c.args.least.now.name) c.in-None.ensures.steps.0) c.loop-key.invariant.ns
-    ∙ whole_type c.args.least.now c.args.sets.now.entries c.args.sets.now.entries c.requires.least c.requires.ordered refl NS
+    ∙ whole_type c.args.least.now c.args.sets.now c.args.sets.now c.requires.least c.requires.ordered refl NS
 
 pub returns-in-None-clause-first_asked : goal.returns-in-None-clause-first_asked
 returns-in-None-clause-first_asked c =
     alone (option_copied c.loop-key.here.first_asked) _ _ (ap (first_set (λ u. c.args.first_asked.0 == u) c.args.least.now.name) c.in-None.ensures.steps.0) c.loop-key.invariant.first_asked
-    ∙ whole_type c.args.least.now c.args.sets.now.entries c.args.sets.now.entries c.requires.least c.requires.ordered refl c.args.first_asked.0
+    ∙ whole_type c.args.least.now c.args.sets.now c.args.sets.now c.requires.least c.requires.ordered refl c.args.first_asked.0
 
 pub returns-in-None-clause-second_asked : goal.returns-in-None-clause-second_asked
 returns-in-None-clause-second_asked c =
     alone (option_copied c.loop-key.here.second_asked) _ _ (ap (first_set (λ u. c.args.second_asked.0 == u) c.args.least.now.name) c.in-None.ensures.steps.0) c.loop-key.invariant.second_asked
-    ∙ whole_type c.args.least.now c.args.sets.now.entries c.args.sets.now.entries c.requires.least c.requires.ordered refl c.args.second_asked.0
+    ∙ whole_type c.args.least.now c.args.sets.now c.args.sets.now c.requires.least c.requires.ordered refl c.args.second_asked.0
 
 pub returns-then-ne-clause-ns : goal.returns-then-ne-clause-ns
 returns-then-ne-clause-ns c =
     let second_asked : eq_by_cmp name_cmp c.in-Some.key.now.name c.args.least.now.name ≡ false = not_true _ (sym c.ne.ensures ∙ c.if-ne.true) in
     alone (option_copied c.loop-key.here.ns) _ _
     (first_over (λ u. NS == u) c.args.least.now.name _ c.next.new.self (c.in-Some.key.now, c.in-Some.set.now) c.in-Some.ensures.steps second_asked) c.loop-key.invariant.ns
-    ∙ whole_type c.args.least.now c.args.sets.now.entries c.args.sets.now.entries c.requires.least c.requires.ordered refl NS
+    ∙ whole_type c.args.least.now c.args.sets.now c.args.sets.now c.requires.least c.requires.ordered refl NS
 
 pub returns-then-ne-clause-first_asked : goal.returns-then-ne-clause-first_asked
 returns-then-ne-clause-first_asked c =
     let second_asked : eq_by_cmp name_cmp c.in-Some.key.now.name c.args.least.now.name ≡ false = not_true _ (sym c.ne.ensures ∙ c.if-ne.true) in
     alone (option_copied c.loop-key.here.first_asked) _ _
     (first_over (λ u. c.args.first_asked.0 == u) c.args.least.now.name _ c.next.new.self (c.in-Some.key.now, c.in-Some.set.now) c.in-Some.ensures.steps second_asked) c.loop-key.invariant.first_asked
-    ∙ whole_type c.args.least.now c.args.sets.now.entries c.args.sets.now.entries c.requires.least c.requires.ordered refl c.args.first_asked.0
+    ∙ whole_type c.args.least.now c.args.sets.now c.args.sets.now c.requires.least c.requires.ordered refl c.args.first_asked.0
 
 pub returns-then-ne-clause-second_asked : goal.returns-then-ne-clause-second_asked
 returns-then-ne-clause-second_asked c =
     let second_asked : eq_by_cmp name_cmp c.in-Some.key.now.name c.args.least.now.name ≡ false = not_true _ (sym c.ne.ensures ∙ c.if-ne.true) in
     alone (option_copied c.loop-key.here.second_asked) _ _
     (first_over (λ u. c.args.second_asked.0 == u) c.args.least.now.name _ c.next.new.self (c.in-Some.key.now, c.in-Some.set.now) c.in-Some.ensures.steps second_asked) c.loop-key.invariant.second_asked
-    ∙ whole_type c.args.least.now c.args.sets.now.entries c.args.sets.now.entries c.requires.least c.requires.ordered refl c.args.second_asked.0
+    ∙ whole_type c.args.least.now c.args.sets.now c.args.sets.now c.requires.least c.requires.ordered refl c.args.second_asked.0
 
 pub returns-then-ge-clause-ns : goal.returns-then-ge-clause-ns
 returns-then-ge-clause-ns c =
@@ -111,7 +111,7 @@ returns-then-ge-clause-ns c =
     (λ u. NS == u) (λ u h. later_differs NS u (omega (arith, h, high, known))))
     (first_passed (λ u. NS == u) c.args.least.now.name _ c.next.new.self (c.in-Some.key.now, c.in-Some.set.now) (option_copied c.loop-key.here.ns) _ _
     c.in-Some.ensures.steps same c.with-here.ensures.ns c.loop-key.invariant.ns)
-    ∙ whole_type c.args.least.now c.args.sets.now.entries c.args.sets.now.entries c.requires.least c.requires.ordered refl NS
+    ∙ whole_type c.args.least.now c.args.sets.now c.args.sets.now c.requires.least c.requires.ordered refl NS
 
 pub returns-then-ge-clause-first_asked : goal.returns-then-ge-clause-first_asked
 returns-then-ge-clause-first_asked c =
@@ -123,7 +123,7 @@ returns-then-ge-clause-first_asked c =
     (λ u. c.args.first_asked.0 == u) (λ u h. later_differs c.args.first_asked.0 u (omega (arith, h, high, known))))
     (first_passed (λ u. c.args.first_asked.0 == u) c.args.least.now.name _ c.next.new.self (c.in-Some.key.now, c.in-Some.set.now) (option_copied c.loop-key.here.first_asked) _ _
     c.in-Some.ensures.steps same c.with-here.ensures.first_asked c.loop-key.invariant.first_asked)
-    ∙ whole_type c.args.least.now c.args.sets.now.entries c.args.sets.now.entries c.requires.least c.requires.ordered refl c.args.first_asked.0
+    ∙ whole_type c.args.least.now c.args.sets.now c.args.sets.now c.requires.least c.requires.ordered refl c.args.first_asked.0
 
 pub returns-then-ge-clause-second_asked : goal.returns-then-ge-clause-second_asked
 returns-then-ge-clause-second_asked c =
@@ -135,21 +135,21 @@ returns-then-ge-clause-second_asked c =
     (λ u. c.args.second_asked.0 == u) (λ u h. later_differs c.args.second_asked.0 u (omega (arith, h, high, known))))
     (first_passed (λ u. c.args.second_asked.0 == u) c.args.least.now.name _ c.next.new.self (c.in-Some.key.now, c.in-Some.set.now) (option_copied c.loop-key.here.second_asked) _ _
     c.in-Some.ensures.steps same c.with-here.ensures.second_asked c.loop-key.invariant.second_asked)
-    ∙ whole_type c.args.least.now c.args.sets.now.entries c.args.sets.now.entries c.requires.least c.requires.ordered refl c.args.second_asked.0
+    ∙ whole_type c.args.least.now c.args.sets.now c.args.sets.now c.requires.least c.requires.ordered refl c.args.second_asked.0
 
 pub returns-in-None-clause-first : goal.returns-in-None-clause-first
 returns-in-None-clause-first c =
     alone (option_copied c.loop-key.here.first) _ _ (ap front_key c.in-None.ensures.steps.0) c.loop-key.invariant.first
-    ∙ whole_first c.args.least.now c.args.sets.now.entries c.requires.least
+    ∙ whole_first c.args.least.now c.args.sets.now c.requires.least
 
 pub returns-then-ne-clause-first : goal.returns-then-ne-clause-first
 returns-then-ne-clause-first c =
     first_known _ c.next.new.self (c.in-Some.key.now, c.in-Some.set.now) (option_copied c.loop-key.here.first) (option_copied c.or-here.result) _
     c.in-Some.ensures.steps (noted_first c.loop-key.here.first c.in-Some.key c.or-here.result c.or-here.ensures) c.loop-key.invariant.first
-    ∙ whole_first c.args.least.now c.args.sets.now.entries c.requires.least
+    ∙ whole_first c.args.least.now c.args.sets.now c.requires.least
 
 pub returns-then-ge-clause-first : goal.returns-then-ge-clause-first
 returns-then-ge-clause-first c =
     first_known _ c.next.new.self (c.in-Some.key.now, c.in-Some.set.now) (option_copied c.loop-key.here.first) (option_copied c.with-here.result.first) _
     c.in-Some.ensures.steps (c.with-here.ensures.first ∙ noted_first c.loop-key.here.first c.in-Some.key c.or-here.result c.or-here.ensures) c.loop-key.invariant.first
-    ∙ whole_first c.args.least.now c.args.sets.now.entries c.requires.least
+    ∙ whole_first c.args.least.now c.args.sets.now c.requires.least

@@ -12,9 +12,9 @@ use Rattle.zone_server.proofs.transfer_writer.send_sets.Goals as goal
 pub returns-in_err-add-clause-halted : goal.returns-in_err-add-clause-halted
 returns-in_err-add-clause-halted g c =
     let q = c.args.query.now in
-    let all = groups_sent c.args.soa.now c.args.sets.now.entries in
+    let all = groups_sent c.args.soa.now c.args.sets.now in
     let soa = records_together (soa_alone c.args.soa.now) in
-    let more = map (λ s. records_together (between s)) (values_of c.args.sets.now.entries) ++ soa ∷ [] in
+    let more = map (λ s. records_together (between s)) (values_of c.args.sets.now) ++ soa ∷ [] in
     let set = records_of c.soa_alone.result in
     let a = c.args.answers.now.items in
     let u = g.W.Write.contents c.args.output.now in
@@ -28,9 +28,9 @@ returns-in_err-add-clause-halted g c =
 pub loop-set-init : goal.loop-set-init
 loop-set-init g c =
     let q = c.args.query.now in
-    let all = groups_sent c.args.soa.now c.args.sets.now.entries in
+    let all = groups_sent c.args.soa.now c.args.sets.now in
     let soa = records_together (soa_alone c.args.soa.now) in
-    let more = map (λ s. records_together (between s)) (values_of c.args.sets.now.entries) ++ soa ∷ [] in
+    let more = map (λ s. records_together (between s)) (values_of c.args.sets.now) ++ soa ∷ [] in
     let set = records_of c.soa_alone.result in
     let a = c.args.answers.now.items in
     let u = g.W.Write.contents c.args.output.now in
@@ -48,7 +48,7 @@ pub loop-set-preserved : goal.loop-set-preserved
 loop-set-preserved g c =
     let f : RRset → List Record = λ s. records_together (between s) in
     let q = c.args.query.now in
-    let all = groups_sent c.args.soa.now c.args.sets.now.entries in
+    let all = groups_sent c.args.soa.now c.args.sets.now in
     let soa = records_together (soa_alone c.args.soa.now) in
     let w = map records_of c.loop-set.waiting.items in
     let more = map f c.next.new.self ++ soa ∷ [] in
@@ -63,7 +63,7 @@ pub returns-in_err-add-2-clause-halted : goal.returns-in_err-add-2-clause-halted
 returns-in_err-add-2-clause-halted g c =
     let f : RRset → List Record = λ s. records_together (between s) in
     let q = c.args.query.now in
-    let all = groups_sent c.args.soa.now c.args.sets.now.entries in
+    let all = groups_sent c.args.soa.now c.args.sets.now in
     let soa = records_together (soa_alone c.args.soa.now) in
     let w = map records_of c.loop-set.waiting.items in
     let more = map f c.next.new.self ++ soa ∷ [] in
@@ -80,7 +80,7 @@ pub returns-in_err-add-3-clause-halted : goal.returns-in_err-add-3-clause-halted
 returns-in_err-add-3-clause-halted g c =
     let f : RRset → List Record = λ s. records_together (between s) in
     let q = c.args.query.now in
-    let all = groups_sent c.args.soa.now c.args.sets.now.entries in
+    let all = groups_sent c.args.soa.now c.args.sets.now in
     let soa = records_together (soa_alone c.args.soa.now) in
     let w = map records_of c.loop-set.waiting.items in
     let set = records_of c.soa_alone-2.result in
@@ -96,7 +96,7 @@ pub returns-clause-sent : goal.returns-clause-sent
 returns-clause-sent g c =
     let f : RRset → List Record = λ s. records_together (between s) in
     let q = c.args.query.now in
-    let all = groups_sent c.args.soa.now c.args.sets.now.entries in
+    let all = groups_sent c.args.soa.now c.args.sets.now in
     let soa = records_together (soa_alone c.args.soa.now) in
     let w = map records_of c.loop-set.waiting.items in
     let set = records_of c.soa_alone-2.result in
@@ -116,7 +116,7 @@ pub returns-clause-halted : goal.returns-clause-halted
 returns-clause-halted g c =
     let f : RRset → List Record = λ s. records_together (between s) in
     let q = c.args.query.now in
-    let all = groups_sent c.args.soa.now c.args.sets.now.entries in
+    let all = groups_sent c.args.soa.now c.args.sets.now in
     let soa = records_together (soa_alone c.args.soa.now) in
     let w = map records_of c.loop-set.waiting.items in
     let set = records_of c.soa_alone-2.result in

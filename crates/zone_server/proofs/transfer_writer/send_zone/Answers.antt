@@ -11,7 +11,7 @@ use Rattle.zone_server.proofs.transfer_writer.send_zone.Goals as goal
 pub returns-in_ok-send_code-in-Err-Unsendable : goal.returns-in_ok-send_code-in-Err-Unsendable
 returns-in_ok-send_code-in-Err-Unsendable g c =
     let q = c.args.query.now in
-    let sets = groups_sent c.args.soa.now c.args.sets.now.entries in
+    let sets = groups_sent c.args.soa.now c.args.sets.now in
     let a = c.args.answers.now.items in
     let b = c.send_sets.new.answers.items in
     let d = c.put_answer.new.answers.items in

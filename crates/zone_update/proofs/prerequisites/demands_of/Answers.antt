@@ -10,15 +10,15 @@ use Rattle.zone_update.proofs.prerequisites.demands_of.Goals as goal
 
 pub loop-entry-init : goal.loop-entry-init
 loop-entry-init c =
-    ap (λ xs. with_front xs (demands_of c.args.origin.now c.args.sets.now.entries (into_iter_items c.into_iter-entry-iterator.result))) c.new-demands.ensures.items
+    ap (λ xs. with_front xs (demands_of c.args.origin.now c.args.sets.now (into_iter_items c.into_iter-entry-iterator.result))) c.new-demands.ensures.items
     ∙ no_front _
-    ∙ ap (demands_of c.args.origin.now c.args.sets.now.entries) c.into_iter-entry-iterator.ensures.into_iter_gives.0
+    ∙ ap (demands_of c.args.origin.now c.args.sets.now) c.into_iter-entry-iterator.ensures.into_iter_gives.0
 
 pub loop-entry-preserved : goal.loop-entry-preserved
 unfolding demands_of
 loop-entry-preserved c =
     let o = c.args.origin.now in
-    let m = c.args.sets.now.entries in
+    let m = c.args.sets.now in
     let xs = c.loop-entry.demands.items in
     let left = into_iter_items c.next.new.self in
     let steps : into_iter_items c.loop-entry.entry-iterator ≡ c.in-Some.entry ∷ left = c.in-Some.ensures.steps.0 in
@@ -33,7 +33,7 @@ pub returns-in-Err : goal.returns-in-Err
 unfolding demands_of
 returns-in-Err c =
     let o = c.args.origin.now in
-    let m = c.args.sets.now.entries in
+    let m = c.args.sets.now in
     let xs = c.loop-entry.demands.items in
     let left = into_iter_items c.next.new.self in
     let steps : into_iter_items c.loop-entry.entry-iterator ≡ c.in-Some.entry ∷ left = c.in-Some.ensures.steps.0 in
@@ -48,4 +48,4 @@ returns c =
     let xs = c.loop-entry.demands.items in
     let left = c.loop-entry.entry-iterator in
     let none : into_iter_items left ≡ [] = nil_from_length (into_iter_items left) (sym (into_iter_deque left).ok.0 ∙ c.in-None.ensures.steps.0) in
-    sym c.loop-entry.invariant ∙ ap (λ es. with_front xs (demands_of c.args.origin.now c.args.sets.now.entries es)) none ∙ ap Ok (append-nil xs)
+    sym c.loop-entry.invariant ∙ ap (λ es. with_front xs (demands_of c.args.origin.now c.args.sets.now es)) none ∙ ap Ok (append-nil xs)

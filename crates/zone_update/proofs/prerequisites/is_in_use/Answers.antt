@@ -14,4 +14,4 @@ returns-clause-answer c =
     ∙ ap (list_any (λ (t : RecordType). p t.0)) c.as_slice.ensures.value
     ∙ any_map p (λ (t : RecordType). t.0) c.in_ok-types.types.items
     ∙ ap (list_any p) c.in_ok-types.ensures.ok
-    ∙ ap (λ (k : RrKey). list_any p (types_at c.args.sets.now.entries k.name)) c.in_ok-least.ensures.copy.ok
+    ∙ ap (λ (k : RrKey). list_any p (types_at c.args.sets.now k.name)) c.in_ok-least.ensures.copy.ok

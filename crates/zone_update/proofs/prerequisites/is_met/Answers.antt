@@ -7,7 +7,7 @@ use Rattle.zone_update.proofs.prerequisites.is_met.Goals as goal
 
 pub returns-in_ok-new-in-SetHas-clause-answer : goal.returns-in_ok-new-in-SetHas-clause-answer
 returns-in_ok-new-in-SetHas-clause-answer c =
-    let m = c.args.sets.now.entries in
+    let m = c.args.sets.now in
     let ds = c.args.demands.now in
     let r = c.in-SetHas.record in
     c.has_exactly.ensures

@@ -10,7 +10,7 @@ use Rattle.zone_update.proofs.prerequisites.meet.Goals as goal
 
 pub returns-in-Ok-true : goal.returns-in-Ok-true
 returns-in-Ok-true c =
-    let m = c.args.sets.now.entries in
+    let m = c.args.sets.now in
     let ds = c.in-Ok.demands.items in
     let end : Result (List Demand) Refusal → Result (List Demand) Refusal = λ r. r >>= λ xs. if list_all (is_met m xs) xs then Ok xs else Err NXRRSet in
     ap end c.in-Ok.ensures
@@ -18,7 +18,7 @@ returns-in-Ok-true c =
 
 pub returns-in-Ok-false : goal.returns-in-Ok-false
 returns-in-Ok-false c =
-    let m = c.args.sets.now.entries in
+    let m = c.args.sets.now in
     let ds = c.in-Ok.demands.items in
     let end : Result (List Demand) Refusal → Result (List Demand) Refusal = λ r. r >>= λ xs. if list_all (is_met m xs) xs then Ok xs else Err NXRRSet in
     ap end c.in-Ok.ensures

@@ -6,8 +6,14 @@ use Rattle.zone_map.proofs.Owned.{set_of}
 use Rattle.zone_denial.proofs.Chains.ChainSets.{sets_are, entry_of}
 use Rattle.zone_verify.specs.ChainSets.{kind_of, sets_of}
 use Rattle.zone_verify.proofs.Nsec3Links.{IsOwned}
-use Rattle.zone_verify.proofs.Passing.{all_passed}
+use Rattle.zone_verify.proofs.Passing.{passed, all_passed}
 use Rattle.zone_verify.proofs.nsec3_links.check_owners.Goals as goal
+
+pub loop-key-preserved : goal.loop-key-preserved
+loop-key-preserved c =
+    let kind = kind_of (option_copied c.args.sets.now.parameters) in
+    passed (IsOwned kind c.args.names.now) c.args.sets.now.records.now c.loop-key.key-iterator c.next.new.self (c.in-Some.key.now, c.in-Some.set.now)
+    c.in-Some.ensures.steps c.in_ok-place.ensures c.loop-key.invariant
 
 pub returns : goal.returns
 returns c = λ o owned.

@@ -2,6 +2,7 @@ use Rattle.std.proofs.Common.{◌≡◌, true, ap, sym, ◌∙◌, subst}
 use Rattle.std.specs.Prelude.{IfSome, option_copied}
 use Rattle.std.specs.List.{list_any}
 use Rattle.std.specs.List.Sorted.{IsStrictlySortedBy}
+use Rattle.std.specs.Map.{keys_of}
 use Rattle.zone_proto.specs.Keys.{key_cmp, key_eq}
 use Rattle.zone_proto.specs.Order.{is_upto}
 use Rattle.zone_map.specs.Ahead.{ahead}
@@ -13,7 +14,7 @@ pub returns-clause-answer : goal.returns-clause-answer
 returns-clause-answer c =
     let k = c.args.key.now in
     let passed = c.first_not_before-self-inside in
-    let others = passed.new.others in
+    let others = keys_of passed.new.others in
     let same = passed.ensures.same k (upto_itself k) ∙ ap (list_any (key_eq k)) c.self.view_is in
     elim c.match-self.branch [
       | in-Some w ↦

@@ -21,7 +21,7 @@ returns-then-is_preferred c =
     let same : eq_by_cmp name_cmp c.in-Some.key.now.name c.args.least.now.name ≡ true = not_false _ (sym c.ne.ensures ∙ c.if-ne.false) in
     sym (chosen_here c.args.least.now.name _ c.next.new.self (c.in-Some.key.now, c.in-Some.field-0-1.now) c.in-Some.ensures.steps (option_map (λ (t : RecordType). t.0) c.loop-key.first) same (sym c.if-is_preferred.ensures))
     ∙ c.loop-key.invariant
-    ∙ chosen_whole c.args.least.now c.args.self.now c.self.inside.sets.entries c.requires c.range-key-items.ensures.ordered c.self.view_is
+    ∙ chosen_whole c.args.least.now c.args.self.now c.self.inside.sets c.requires c.from-key-items.ensures.ordered c.self.view_is
 
 pub loop-key-preserved-then-is_none : goal.loop-key-preserved-then-is_none
 loop-key-preserved-then-is_none c =
@@ -37,7 +37,7 @@ loop-key-preserved c =
 
 pub returns : goal.returns
 returns c =
-    let whole = chosen_whole c.args.least.now c.args.self.now c.self.inside.sets.entries c.requires c.range-key-items.ensures.ordered c.self.view_is in
+    let whole = chosen_whole c.args.least.now c.args.self.now c.self.inside.sets c.requires c.from-key-items.ensures.ordered c.self.view_is in
     let first = option_map (λ (t : RecordType). t.0) c.loop-key.first in
     ap (λ (t : RecordType). t.0) c.unwrap_or.ensures ∙ first_number c.loop-key.first ∙ elim c.match-next.branch [
       | in-None w ↦ sym (chosen_end first (front_types c.args.least.now.name c.loop-key.key-iterator) (ap (front_types c.args.least.now.name) w.in-None.ensures.steps.0)) ∙ c.loop-key.invariant ∙ whole

@@ -12,7 +12,7 @@ returns-then-is_without_denials-clause-answer c =
     let n = c.args.least.now.name in
     c.owns_from.ensures.owned
     ∙ ap (λ (x : Sets). owns_at_or_below x n) (sym c.self.view_is)
-    ∙ exists_plain c.self.inside.sets.entries n c.self.inside.index c.self.invariant.index (sym c.is_without_denials.ensures ∙ c.if-is_without_denials.true)
+    ∙ exists_plain c.self.inside.sets n c.self.inside.index c.self.invariant.index (sym c.is_without_denials.ensures ∙ c.if-is_without_denials.true)
     ∙ ap (λ (x : Sets). exists x n) c.self.view_is
 
 pub returns-then-is_without_denials-clause-counted : goal.returns-then-is_without_denials-clause-counted
@@ -21,7 +21,7 @@ returns-then-is_without_denials-clause-counted c = at_most_one (has_key_from c.a
 pub returns-clause-answer : goal.returns-clause-answer
 returns-clause-answer c =
     let n = c.args.least.now.name in
-    let m = c.self.inside.sets.entries in
+    let m = c.self.inside.sets in
     c.owns_other_at_or_below.ensures
     ∙ ap (list_any (is_at_or_above n)) (others_of m c.self.inside.index c.self.invariant.index (sym c.is_without_denials.ensures ∙ c.if-is_without_denials.false))
     ∙ exists_listed m n

@@ -13,7 +13,7 @@ returns-in-Some-next c =
     let t = c.args.record_type.0 in
     let listed = ap (option_map (λ set. set.now.keys)) (sym c.in-Some.is) ∙ c.owners.ensures m (c.denials.ensures ∙ ap (λ (l : Listed). l.denials) (c.self.invariant.index ∙ ap listed_of c.self.view_is)) in
     first_tells c.args.name.now c.in-Some.owners.now.keys (denial_owners m t) c.range.result (listed_owners (is_denial_type t) (owners m t) c.in-Some.owners.now.keys listed)
-    (listed_ascend m t c.self.inside.sets.entries c.self.view_is c.self.invariant.zone) (c.range.ensures.between tt) c.in-Some-next.first.now c.next.new.self c.zone_of.result c.in-Some-next.ensures.steps c.zone_of.ensures
+    (listed_ascend m t c.self.inside.sets c.self.view_is c.self.invariant.zone) (c.range.ensures.between tt) c.in-Some-next.first.now c.next.new.self c.zone_of.result c.in-Some-next.ensures.steps c.zone_of.ensures
 
 pub returns-in-None : goal.returns-in-None
 returns-in-None c =
@@ -21,4 +21,4 @@ returns-in-None c =
     let t = c.args.record_type.0 in
     let listed = ap (option_map (λ set. set.now.keys)) (sym c.in-Some.is) ∙ c.owners.ensures m (c.denials.ensures ∙ ap (λ (l : Listed). l.denials) (c.self.invariant.index ∙ ap listed_of c.self.view_is)) in
     none_tells c.args.name.now c.in-Some.owners.now.keys (denial_owners m t) c.range.result (listed_owners (is_denial_type t) (owners m t) c.in-Some.owners.now.keys listed)
-    (listed_ascend m t c.self.inside.sets.entries c.self.view_is c.self.invariant.zone) (c.range.ensures.between tt) c.in-None.ensures.steps.0
+    (listed_ascend m t c.self.inside.sets c.self.view_is c.self.invariant.zone) (c.range.ensures.between tt) c.in-None.ensures.steps.0

@@ -14,8 +14,8 @@ use Rattle.zone_map.proofs.record_map.RecordMap.part.Goals as goal
 none : (c : goal.After-new) → without_denials c.args.self.now ≡ c.args.self.now
 none c =
     subst (λ (m : Sets). without_denials m ≡ m) c.self.view_is
-    (let either = none_of_either (owners_of c.self.inside.sets.entries) (sym (ap (λ (l : Listed). none_deny l.denials) c.self.invariant.index) ∙ sym c.is_without_denials.ensures ∙ c.if-is_without_denials.true) in
-    none_denied c.self.inside.sets.entries c.self.invariant.zone.ordered either.0 either.1)
+    (let either = none_of_either (owners_of c.self.inside.sets) (sym (ap (λ (l : Listed). none_deny l.denials) c.self.invariant.index) ∙ sym c.is_without_denials.ensures ∙ c.if-is_without_denials.true) in
+    none_denied c.self.inside.sets c.self.invariant.zone.ordered either.0 either.1)
 
 all : (c : goal.After-new) → without_denials c.args.more.entries ≡ []
 all c = c.are_denials.ensures c.if-are_denials.true

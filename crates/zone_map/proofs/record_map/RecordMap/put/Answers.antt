@@ -13,18 +13,18 @@ use Rattle.zone_map.proofs.record_map.RecordMap.put.Goals as goal
 pub invariant_of-self-in-Ok-insert : goal.invariant_of-self-in-Ok-insert
 invariant_of-self-in-Ok-insert c =
     record {
-      zone = subst IsZone (sym c.in-Ok-insert.ensures.entries) (IsZone-put c.self.inside.sets.entries c.args.key c.args.set c.self.invariant.zone c.requires);
-      index = c.in-Ok.ensures.ok c.args.set c.self.invariant.zone c.self.invariant.index ∙ ap listed_of (sym c.in-Ok-insert.ensures.entries);
+      zone = subst IsZone (sym c.in-Ok-insert.ensures.put) (IsZone-put c.self.inside.sets c.args.key c.args.set c.self.invariant.zone c.requires);
+      index = c.in-Ok.ensures.ok c.args.set c.self.invariant.zone c.self.invariant.index ∙ ap listed_of (sym c.in-Ok-insert.ensures.put);
     }
 
 pub invariant_of-self-in-Err : goal.invariant_of-self-in-Err
 invariant_of-self-in-Err c =
-    let before = c.self.inside.sets.entries in
+    let before = c.self.inside.sets in
     record {
-      zone = subst IsZone (sym c.in-Err.ensures.err) c.self.invariant.zone;
+      zone = subst IsZone (sym c.in-Err.ensures.same) c.self.invariant.zone;
       index =
           c.remove.ensures (insert_entry key_cmp before c.args.key c.args.set) (IsZone-put before c.args.key c.args.set c.self.invariant.zone c.requires)
           (c.in-Ok.ensures.ok c.args.set c.self.invariant.zone c.self.invariant.index)
-          (c.in-Err.ensures.err ∙ sym (put_removed before c.args.key c.args.set c.in-Err.ensures.absent (key_itself c.args.key))
-          ∙ ap (λ (k : RrKey). remove_entry (key_eq k) (insert_entry key_cmp before c.args.key c.args.set)) (sym (ap (λ p. p.0) c.in-Err.ensures.value_returned)));
+          (c.in-Err.ensures.same ∙ sym (put_removed before c.args.key c.args.set c.in-Err.ensures.absent (key_itself c.args.key))
+          ∙ ap (λ (k : RrKey). remove_entry (key_eq k) (insert_entry key_cmp before c.args.key c.args.set)) (sym (ap (λ p. p.0) c.in-Err.ensures.refused)));
     }

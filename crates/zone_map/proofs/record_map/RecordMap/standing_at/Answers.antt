@@ -12,13 +12,13 @@ use Rattle.zone_map.proofs.record_map.RecordMap.standing_at.Goals.{then-clashes-
 pub loop-key-init : goal.loop-key-init
 loop-key-init c =
     let first : c.into_iter-key-iterator.result ≡ from_key c.args.least.now c.args.self.now =
-    c.into_iter-key-iterator.ensures.into_iter_gives ∙ c.range-key-items.ensures.between tt ∙ ap (from_key c.args.least.now) c.self.view_is in
+    c.into_iter-key-iterator.ensures.into_iter_gives ∙ c.from-key-items.ensures.sets ∙ ap (from_key c.args.least.now) c.self.view_is in
     record {
       clashes = ap (λ es. list_any (clash c.args.record_type.0) (front_types c.args.least.now.name es)) first;
       there = ap (λ es. list_any (λ u. c.args.record_type.0 == u) (front_types c.args.least.now.name es)) first;
       ascend =
           subst (λ es. Ascends (front_types c.args.least.now.name es)) (sym first)
-          (whole_ascends c.args.least.now c.args.self.now c.self.inside.sets.entries c.requires c.range-key-items.ensures.ordered c.self.view_is);
+          (whole_ascends c.args.least.now c.args.self.now c.self.inside.sets c.requires c.from-key-items.ensures.ordered c.self.view_is);
     }
 
 pub loop-key-preserved : goal.loop-key-preserved
@@ -51,18 +51,18 @@ returns-then-clashes-clause-clashes c =
     ])
     (front_noted (clash c.args.record_type.0) c.args.least.now.name _ c.next.new.self (c.in-Some.key.now, c.in-Some.field-0-1.now) c.in-Some.ensures.steps false c.clash-clashes.result _
     same c.clash-clashes.ensures c.loop-key.invariant.clashes)
-    ∙ front_is_whole (clash c.args.record_type.0) c.args.least.now c.args.self.now c.self.inside.sets.entries c.requires c.range-key-items.ensures.ordered c.self.view_is
+    ∙ front_is_whole (clash c.args.record_type.0) c.args.least.now c.args.self.now c.self.inside.sets c.requires c.from-key-items.ensures.ordered c.self.view_is
 
 pub returns-in-None-clause-clashes : goal.returns-in-None-clause-clashes
 returns-in-None-clause-clashes c =
     sym (ap (λ es. list_any (clash c.args.record_type.0) (front_types c.args.least.now.name es)) c.in-None.ensures.steps.0)
     ∙ c.loop-key.invariant.clashes
-    ∙ front_is_whole (clash c.args.record_type.0) c.args.least.now c.args.self.now c.self.inside.sets.entries c.requires c.range-key-items.ensures.ordered c.self.view_is
+    ∙ front_is_whole (clash c.args.record_type.0) c.args.least.now c.args.self.now c.self.inside.sets c.requires c.from-key-items.ensures.ordered c.self.view_is
 
 pub returns-in-None-clause-absent : goal.returns-in-None-clause-absent
 returns-in-None-clause-absent c h =
     sym (all_noted c.loop-key.is_there _ _ (ap (λ es. list_any (λ u. c.args.record_type.0 == u) (front_types c.args.least.now.name es)) c.in-None.ensures.steps.0) c.loop-key.invariant.there
-    ∙ front_is_whole (λ u. c.args.record_type.0 == u) c.args.least.now c.args.self.now c.self.inside.sets.entries c.requires c.range-key-items.ensures.ordered c.self.view_is
+    ∙ front_is_whole (λ u. c.args.record_type.0 == u) c.args.least.now c.args.self.now c.self.inside.sets c.requires c.from-key-items.ensures.ordered c.self.view_is
     ∙ type_listed c.args.self.now c.args.least.now.name c.args.record_type.0)
     ∙ h
 
@@ -71,13 +71,13 @@ returns-then-ne-clause-clashes c =
     let other : eq_by_cmp name_cmp c.in-Some.key.now.name c.args.least.now.name ≡ false = not_true _ (sym c.ne.ensures ∙ c.if-ne.true) in
     sym (front_over (clash c.args.record_type.0) c.args.least.now.name _ c.next.new.self (c.in-Some.key.now, c.in-Some.field-0-1.now) c.in-Some.ensures.steps other)
     ∙ c.loop-key.invariant.clashes
-    ∙ front_is_whole (clash c.args.record_type.0) c.args.least.now c.args.self.now c.self.inside.sets.entries c.requires c.range-key-items.ensures.ordered c.self.view_is
+    ∙ front_is_whole (clash c.args.record_type.0) c.args.least.now c.args.self.now c.self.inside.sets c.requires c.from-key-items.ensures.ordered c.self.view_is
 
 pub returns-then-ne-clause-absent : goal.returns-then-ne-clause-absent
 returns-then-ne-clause-absent c h =
     let other : eq_by_cmp name_cmp c.in-Some.key.now.name c.args.least.now.name ≡ false = not_true _ (sym c.ne.ensures ∙ c.if-ne.true) in
     sym (all_noted c.loop-key.is_there _ _
     (front_over (λ u. c.args.record_type.0 == u) c.args.least.now.name _ c.next.new.self (c.in-Some.key.now, c.in-Some.field-0-1.now) c.in-Some.ensures.steps other) c.loop-key.invariant.there
-    ∙ front_is_whole (λ u. c.args.record_type.0 == u) c.args.least.now c.args.self.now c.self.inside.sets.entries c.requires c.range-key-items.ensures.ordered c.self.view_is
+    ∙ front_is_whole (λ u. c.args.record_type.0 == u) c.args.least.now c.args.self.now c.self.inside.sets c.requires c.from-key-items.ensures.ordered c.self.view_is
     ∙ type_listed c.args.self.now c.args.least.now.name c.args.record_type.0)
     ∙ h

@@ -10,11 +10,27 @@ use Rattle.zone_map.proofs.Ahead.{still_ahead}
 use Rattle.zone_map.proofs.Parting.{kept_more, passed_over}
 use Rattle.zone_map.proofs.record_map.puts.absent_keys.Goals as goal
 
+seen_of : (a b : List RrKey) → a ≡ b → (ks : List RrKey) → AllByRecursion (λ q. list_any (key_eq q) a ≡ list_any (key_eq q) b) ks
+seen_of a b same [] = tt
+seen_of a b same (k ∷ ks) = (ap (list_any (key_eq k)) same, seen_of a b same ks)
+
+pub loop-key-init : goal.loop-key-init
+loop-key-init c =
+    let keys : c.into_iter-key-iterator.result ≡ keys_of c.args.more.now.entries = c.into_iter-key-iterator.ensures.into_iter_gives ∙ c.keys-key-items.ensures.rest in
+    let here : c.new-ahead.result ≡ keys_of c.args.sets.now = c.new-ahead.ensures ∙ ap keys_of c.iter.ensures.rest in
+    record {
+      ordered = subst (IsStrictlySortedBy key_cmp) (sym keys) c.keys-key-items.ensures.ordered;
+      seen = seen_of c.new-ahead.result (keys_of c.args.sets.now) here c.into_iter-key-iterator.result;
+      absent =
+          ap (λ (ks : List RrKey). ks ++ filter (λ q. not (list_any (key_eq q) (keys_of c.args.sets.now))) c.into_iter-key-iterator.result) c.new-absent.ensures.items
+          ∙ ap (filter (λ q. not (list_any (key_eq q) (keys_of c.args.sets.now)))) keys;
+    }
+
 pub loop-key-preserved-in_ok-push : goal.loop-key-preserved-in_ok-push
 loop-key-preserved-in_ok-push c =
     let k = c.in-Some.key.now in
     let left : List RrKey = c.next.new.self in
-    let here : List RrKey = keys_of c.args.sets.now.entries in
+    let here : List RrKey = keys_of c.args.sets.now in
     let absent : List RrKey = c.loop-key.absent.items in
     let steps : c.loop-key.key-iterator ≡ k ∷ left = c.in-Some.ensures.steps in
     let sorted : IsStrictlySortedBy key_cmp (k ∷ left) = subst (IsStrictlySortedBy key_cmp) steps c.loop-key.invariant.ordered in
@@ -33,7 +49,7 @@ pub loop-key-preserved : goal.loop-key-preserved
 loop-key-preserved c =
     let k = c.in-Some.key.now in
     let left : List RrKey = c.next.new.self in
-    let here : List RrKey = keys_of c.args.sets.now.entries in
+    let here : List RrKey = keys_of c.args.sets.now in
     let steps : c.loop-key.key-iterator ≡ k ∷ left = c.in-Some.ensures.steps in
     let sorted : IsStrictlySortedBy key_cmp (k ∷ left) = subst (IsStrictlySortedBy key_cmp) steps c.loop-key.invariant.ordered in
     let seen : AllByRecursion (λ q. list_any (key_eq q) c.loop-key.ahead ≡ list_any (key_eq q) here) (k ∷ left) =

@@ -12,6 +12,6 @@ abbrev pub invariant-loop-key : goal.invariant-loop-key
 invariant-loop-key l =
     record {
       ordered : IsStrictlySortedBy key_cmp l.key-iterator;
-      seen : AllByRecursion (λ q. list_any (key_eq q) l.ahead ≡ list_any (key_eq q) (keys_of l.sets.entries)) l.key-iterator;
-      absent : l.absent.items ++ filter (λ k. not (list_any (key_eq k) (keys_of l.sets.entries))) l.key-iterator ≡ filter (λ k. not (list_any (key_eq k) (keys_of l.sets.entries))) (keys_of l.more.entries);
+      seen : AllByRecursion (λ q. list_any (key_eq q) l.ahead ≡ list_any (key_eq q) (keys_of l.sets)) l.key-iterator;
+      absent : l.absent.items ++ filter (λ k. not (list_any (key_eq k) (keys_of l.sets))) l.key-iterator ≡ filter (λ k. not (list_any (key_eq k) (keys_of l.sets))) (keys_of l.more.entries);
     }

@@ -13,7 +13,7 @@ abbrev pub invariant-loop-key : goal.invariant-loop-key
 invariant-loop-key l =
     record {
       room : vec_len l.exchanged + length (into_iter_items l.key-iterator) ≤ vec_capacity l.exchanged;
-      ordered : IsStrictlySortedBy key_cmp (keys_of l.sets.entries);
-      before : with_before l.sets.entries l.exchanged.items ≡ with_before l.fn.sets.entries l.fn.exchanged.items;
-      put : with_exchanged l.sets.entries (into_iter_items l.key-iterator) ≡ with_exchanged l.fn.sets.entries l.fn.common.items;
+      ordered : IsStrictlySortedBy key_cmp (keys_of l.sets);
+      before : with_before l.sets l.exchanged.items ≡ with_before l.fn.sets l.fn.exchanged.items;
+      put : with_exchanged l.sets (into_iter_items l.key-iterator) ≡ with_exchanged l.fn.sets l.fn.common.items;
     }

@@ -10,7 +10,7 @@ use Rattle.zone_map.proofs.record_map.puts.part_by_keys.Goals as goal
 
 pub returns-then-len : goal.returns-then-len
 returns-then-len c =
-    let stands = λ (q : RrKey). list_any (key_eq q) (keys_of c.args.sets.now.entries) in
+    let stands = λ (q : RrKey). list_any (key_eq q) (keys_of c.args.sets.now) in
     let more = c.args.more.entries in
     let added = c.in_ok-added.added in
     let all : length (filter (λ k. not (stands k)) (keys_of more)) ≡ length more = omega (arith, ap length c.in_ok-added.ensures.ok, added.ok.0) in
@@ -22,11 +22,11 @@ returns-then-len c =
     }
 
 pub separate-requires : goal.separate-requires
-separate-requires c = ((λ q. list_any (key_eq q) (keys_of c.args.sets.now.entries)), c.as_slice.ensures.value ∙ c.in_ok-added.ensures.ok)
+separate-requires c = ((λ q. list_any (key_eq q) (keys_of c.args.sets.now)), c.as_slice.ensures.value ∙ c.in_ok-added.ensures.ok)
 
 pub returns : goal.returns
 returns c =
-    let stands = λ (q : RrKey). list_any (key_eq q) (keys_of c.args.sets.now.entries) in
+    let stands = λ (q : RrKey). list_any (key_eq q) (keys_of c.args.sets.now) in
     let more = c.args.more.entries in
     let are_added = c.as_slice.ensures.value ∙ c.in_ok-added.ensures.ok in
     let parts = c.in_ok-common in

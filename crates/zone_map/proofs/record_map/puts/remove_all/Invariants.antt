@@ -5,4 +5,4 @@ use Rattle.zone_map.proofs.record_map.puts.remove_all.Given as goal
 
 -- without those whose keys are left the sets become those that they are to be
 abbrev pub invariant-loop-key : goal.invariant-loop-key
-invariant-loop-key l = without_all l.sets.entries (into_iter_items l.key-iterator) ≡ without_all l.fn.sets.entries l.fn.keys.items
+invariant-loop-key l = without_all l.sets (into_iter_items l.key-iterator) ≡ without_all l.fn.sets l.fn.keys.items

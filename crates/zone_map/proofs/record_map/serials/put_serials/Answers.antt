@@ -6,4 +6,4 @@ use Rattle.zone_map.proofs.record_map.serials.put_serials.Goals as goal
 pub returns : goal.returns
 returns c =
     each_changed _ (λ k s. if k.record_type.0 == c.args.record_type.0 then record s { serial = c.args.serial } else s) _ (λ k v b w f' t. search rules)
-    c.args.sets.now.entries c.retain.new.self.entries c.retain.ensures.filtered
+    c.args.sets.now c.retain.new.self c.retain.ensures

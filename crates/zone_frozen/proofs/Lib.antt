@@ -1,0 +1,7 @@
+pub mod SetsFrom
+pub mod Nearest
+pub mod UnderKeys
+pub mod Inserted
+mod Refilling
+mod Retained
+mod FirstRows
