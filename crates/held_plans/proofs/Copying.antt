@@ -13,7 +13,8 @@ use Rattle.zone_proto.proofs.Ordering.KeyLaws.{key_cmp_total}
 use Rattle.zone_map.specs.Zones.{Sets, IsZone, put}
 use Rattle.zone_map.proofs.Putting.{keys_of-append}
 use Rattle.zone_denial.proofs.Ascending.{Ascends, Ascends-apart, Ascends-from_sorted}
-use Rattle.held_plans.specs.Copies.{copied, is_made}
+use Rattle.zone_planner.specs.Zones.{is_made_anew}
+use Rattle.held_plans.specs.Copies.{copied}
 
 -- ---- sets that are put in one after the other, in the order of their keys
 
@@ -65,7 +66,7 @@ module _ (p : RrKey × RRset → Bool) where
 
 -- a set is copied
 abbrev pub passes : Bool → RrKey × RRset → Bool
-passes anew e = not (anew && is_made e.0.record_type.0)
+passes anew e = not (anew && is_made_anew e.0.record_type.0)
 
 -- all are, where none is made anew
 pub all_copied : (m : Sets) → copied false m ≡ m

@@ -1,9 +1,11 @@
 //! Copies of the sets of a zone.
 ghost use Rattle.std.specs.Prelude.{◌≡◌, ◌&&◌, not, IfOk, IsOkUnless};
-ghost use Rattle.held_plans.specs.Copies.{copied, is_made, unsigned};
+ghost use Rattle.zone_planner.specs.Zones.{is_made_anew};
+ghost use Rattle.held_plans.specs.Copies.{copied, unsigned};
 
 use std::alloc::Global;
 use zone_map::{RecordMap, put_copy};
+use zone_planner::is_made_anew;
 use zone_proto::{ProtoError, RecordType};
 
 /// The sets of a zone without those that are made anew where it is signed: signatures, denials and keys. Its only error is `Memory`.
@@ -39,18 +41,7 @@ fn copied(alloc: Global, records: &RecordMap, anew: bool) -> Result<RecordMap, P
 
 /// Whether sets of a type are copied.
 fn is_copied(anew: bool, record_type: RecordType) -> bool
-    ensures { result ≡ not (anew && is_made record_type.0) }
+    ensures { result ≡ not (anew && is_made_anew record_type.0) }
 {
-    !(anew && is_made(record_type))
-}
-
-/// Whether sets of a type are made anew where a zone is signed.
-fn is_made(record_type: RecordType) -> bool
-    ensures { result ≡ is_made record_type.0 }
-{
-    record_type == RecordType::RRSIG
-        || record_type == RecordType::NSEC
-        || record_type == RecordType::NSEC3
-        || record_type == RecordType::NSEC3PARAM
-        || record_type == RecordType::DNSKEY
+    !(anew && is_made_anew(record_type))
 }

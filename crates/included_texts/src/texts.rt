@@ -63,10 +63,10 @@ fn want(alloc: Global, wanted: &mut Vec<String>, name: &str) -> Result<(), Alloc
     ensures { OnOk result (map string_bytes wanted.new.items
         ≡ with_wanted name.now (map string_bytes wanted.old.items)) }
 {
-    if has_name(wanted.as_slice(), name) {
+    if wanted.len() >= MOST_WANTED {
         return Ok(());
     }
-    if wanted.len() >= MOST_WANTED {
+    if has_name(wanted.as_slice(), name) {
         return Ok(());
     }
     let name = String::from_str(alloc, name)?;

@@ -52,6 +52,7 @@ names: keys: NAME TYPE NAME TYPE
 names: copy key: NAME TYPE
 records: type: TEXT
 records: types: TYPE TYPE
+records: kind of: TYPE
 records: class: NUMBER
 records: code: NUMBER
 records: record: RECORD

@@ -6,7 +6,7 @@ use library_rows_arguments::Arguments;
 use line_text::{DataText, HexText, RecordText};
 use zone_proto::{
     DNSClass, NxProofKind, OtherData, ProtoError, Query, RData, Record, RecordType, ResponseCode,
-    Seq,
+    Seq, is_derived, is_single,
 };
 
 /// Makes a call on types, data and records.
@@ -105,6 +105,7 @@ fn make_type_call(out: &mut Answer, verb: &str, arguments: &mut Arguments<'_>) {
             let second = arguments.take_type();
             out.order(arguments.take_type().cmp(&second));
         }
+        "kind of" => write_kind(out, arguments.take_type()),
         "class" => out.value(DNSClass(arguments.take_short())),
         "question" => write_question(out, arguments.take_query()),
         _ => out.value(code_of(arguments.take_short())),
@@ -127,6 +128,13 @@ fn write_type(out: &mut Answer, text: &str) {
         }
         None => out.say("nothing"),
     }
+}
+
+/// Writes whether sets of a type have one record at most, and whether they are made where a zone is signed.
+fn write_kind(out: &mut Answer, record_type: RecordType) {
+    out.hold(is_single(record_type));
+    out.say(" ");
+    out.hold(is_derived(record_type));
 }
 
 /// The response code of a number.

@@ -2,6 +2,7 @@
 -- section 7, RFC 9471 section 3.1)
 use Rattle.std.specs.Prelude.{◌≡◌, ◌⊎◌, ℕ, refl, ◌+◌, ◌-◌, ◌*◌, ◌/◌, ◌%◌, ◌<◌, ◌≤◌, ◌&&◌, not, Bool, true, false, if◌then◌else◌, List, [], ◌∷◌, ◌++◌, length, map, Option, Some, None}
 use Rattle.std.specs.List.{flat_map}
+use Rattle.zone_proto.specs.Sets.{RRset}
 use Rattle.zone_proto.specs.declared.record.Record.{Record}
 use Rattle.zone_proto.specs.declared.rdata.RData.TheVariants as V
 use Rattle.message_reading.specs.declared.header.Header.{Header}
@@ -17,6 +18,10 @@ use Rattle.message_writing.specs.Continuing.{Continues, Appends, AppendsAll}
 -- the record with another TTL
 abbrev pub with_ttl : ℕ → Record → Record
 with_ttl ttl r = record r { ttl = ttl }
+
+-- the records of a set and then its signatures, with the TTL of the set (RFC 2181 section 5.2, RFC 4034 section 3)
+abbrev pub records_together : RRset → List Record
+records_together s = map (with_ttl s.ttl) (s.records ++ s.signatures)
 
 -- The records of a group and then its signatures, all with the group's TTL (RFC 2181 section 5.2, RFC 4034 section 3).
 abbrev pub records_of : Group → List Record

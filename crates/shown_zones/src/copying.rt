@@ -10,7 +10,7 @@ ghost use Rattle.shown_zones.specs.Shown.{shown, shown_set, with_ttl};
 use crate::spelling::spelled;
 use std::alloc::Global;
 use zone_map::{NewSets, RecordMap};
-use zone_proto::{ProtoError, Record, RecordSet, RecordType, RrKey};
+use zone_proto::{ProtoError, Record, RecordSet, RrKey, is_single};
 
 /// A copy of a zone as answers show it: each set with its TTL on all its records and signatures (RFC 2181 section 5.2), in class IN and with
 /// serial 0. Refused by `Memory` alone.
@@ -85,13 +85,4 @@ fn put_next(set: &mut RecordSet, next: Record) -> Result<(), ProtoError>
     } else {
         set.append(next, 0)
     }
-}
-
-/// Whether a set of the type has one record at most.
-fn is_single(record_type: RecordType) -> bool
-    ensures { result ≡ is_single record_type.0 }
-{
-    record_type == RecordType::SOA
-        || record_type == RecordType::CNAME
-        || record_type == RecordType::ANAME
 }

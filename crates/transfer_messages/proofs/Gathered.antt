@@ -9,10 +9,10 @@ use Rattle.zone_proto.specs.declared.rr_key.RrKey.{RrKey}
 use Rattle.zone_proto.specs.Sets.{RRset}
 use Rattle.zone_map.specs.Zones.{Sets}
 use Rattle.message_writing.specs.declared.response.Group.{Group}
-use Rattle.message_writing.specs.Responses.{records_of}
+use Rattle.message_writing.specs.Responses.{records_of, records_together}
 use Rattle.transfer_messages.specs.Gathering.{Gathers}
 use Rattle.transfer_messages.specs.Transfers.{sets_records}
-use Rattle.zone_server.specs.Transfers.{between, one_by_one, records_together}
+use Rattle.zone_server.specs.Transfers.{between, one_by_one}
 use Rattle.transfer_messages.proofs.Lists.{drop_joined}
 
 -- how many groups there are then

@@ -16,7 +16,8 @@ use Rattle.zone_proto.proofs.Ordering.KeyLaws.{key_cmp_total}
 use Rattle.zone_proto.proofs.Ordering.KeyOrder.{key_same, key_itself}
 use Rattle.zone_map.specs.Zones.{Sets}
 use Rattle.transfer_messages.specs.Transfers.{ahead_of, sets_records}
-use Rattle.zone_server.specs.Transfers.{between, records_together}
+use Rattle.message_writing.specs.Responses.{records_together}
+use Rattle.zone_server.specs.Transfers.{between}
 use Rattle.transfer_messages.proofs.Lists.{dropped_over, dropped_twice}
 
 -- sets stand at the end of others

@@ -9,7 +9,8 @@ use Rattle.zone_proto.specs.declared.rr_key.RrKey.{RrKey}
 use Rattle.zone_proto.specs.Keys.{key_cmp}
 use Rattle.zone_proto.specs.Sets.{RRset}
 use Rattle.zone_map.specs.Zones.{Sets}
-use Rattle.zone_server.specs.Transfers.{between, records_together, soa_alone}
+use Rattle.message_writing.specs.Responses.{records_together}
+use Rattle.zone_server.specs.Transfers.{between, soa_alone}
 use Rattle.transfer_messages.specs.declared.place.Place.{Place}
 use Rattle.transfer_messages.specs.declared.place.Place.TheVariants as at
 

@@ -1,9 +1,9 @@
 //! The place behind further records.
 ghost use Rattle.std.specs.Prelude.{◌≡◌, ◌+◌, ◌++◌, drop, length, option_copied, IfOk};
-ghost use Rattle.message_writing.specs.Responses.{records_of};
+ghost use Rattle.message_writing.specs.Responses.{records_of, records_together};
 ghost use Rattle.transfer_messages.specs.Advancing.{Passes};
 ghost use Rattle.transfer_messages.specs.Transfers.{ahead_of, left_at, sets_records};
-ghost use Rattle.zone_server.specs.Transfers.{records_together, soa_alone};
+ghost use Rattle.zone_server.specs.Transfers.{soa_alone};
 
 use crate::ahead::sets_ahead;
 use crate::place::Place;

@@ -1,9 +1,9 @@
 //! The records that come next.
 ghost use Rattle.std.specs.Prelude.{◌≡◌, ◌+◌, ◌-◌, ◌++◌, [], drop, length, map, IfOk, OnOk};
-ghost use Rattle.message_writing.specs.Responses.{records_of, with_ttl};
+ghost use Rattle.message_writing.specs.Responses.{records_of, records_together, with_ttl};
 ghost use Rattle.transfer_messages.specs.Gathering.{Gathers};
 ghost use Rattle.transfer_messages.specs.Transfers.{left_at, sets_records};
-ghost use Rattle.zone_server.specs.Transfers.{records_together, soa_alone};
+ghost use Rattle.zone_server.specs.Transfers.{soa_alone};
 
 use crate::ahead::sets_ahead;
 use crate::place::Place;

@@ -3,7 +3,7 @@ use Rattle.std.specs.Prelude.{◌≡◌, ℕ, Bool, true, false, ◌⊎◌, cond
 use Rattle.zone_proto.specs.declared.rdata.signing.DNSKEY.{DNSKEY}
 use Rattle.zone_proto.specs.declared.rr_key.RrKey.{RrKey}
 use Rattle.zone_proto.specs.Names.{Name}
-use Rattle.zone_proto.specs.Types.{DNSKEY as dnskey_type}
+use Rattle.zone_proto.specs.Types.{DNSKEY as dnskey_type, is_derived}
 use Rattle.zone_map.specs.Zones.{Sets, IsZone, set_at}
 use Rattle.zone_keeping.specs.Faults.{AllComparable}
 use Rattle.zone_keeping.specs.Keeping.{kept}
@@ -12,7 +12,6 @@ use Rattle.zone_planner.specs.declared.keys.PlannedKey.{PlannedKey}
 use Rattle.zone_planner.specs.declared.request.Request.{Request}
 use Rattle.zone_planner.specs.Faults.{plan_fault}
 use Rattle.zone_planner.specs.Plans.{IsPlanned}
-use Rattle.zone_planner.specs.Zones.{is_made_type}
 use Rattle.zone_planning.specs.declared.fault.PlanFault.{PlanFault}
 use Rattle.zone_planning.specs.declared.fault.PlanFault.TheVariants as fault
 use Rattle.zone_planning.specs.declared.plans.Plan.{Plan}
@@ -27,12 +26,12 @@ use Rattle.update_denials.specs.declared.preparing.Signing.{Signing}
 
 -- a key is that of a set that is made where a zone is signed: RRSIG, NSEC, NSEC3 or NSEC3PARAM
 abbrev pub is_made : RrKey → Bool
-is_made k = is_made_type k.record_type.0
+is_made k = is_derived k.record_type.0
 
 -- a zone without these sets
 pub record IsUnsecured (m bare : Sets) : Type 0 where
   pub zone : IsZone bare
-  pub each : (n : Name) (t : ℕ) → set_at bare n t ≡ cond (is_made_type t) None (set_at m n t)
+  pub each : (n : Name) (t : ℕ) → set_at bare n t ≡ cond (is_derived t) None (set_at m n t)
 
 -- the keys by which a zone is signed, as they stand in it
 abbrev pub keys_of : Signing → List DNSKEY

@@ -1,13 +1,12 @@
 //! A zone without what is made where it is signed.
-ghost use Rattle.std.specs.Prelude.{◌≡◌, ◌==◌, ◌||◌, filter, IfOk, IsOkUnless};
+ghost use Rattle.std.specs.Prelude.{◌≡◌, filter, IfOk, IsOkUnless};
 ghost use Rattle.std.specs.Map.{keys_of};
 ghost use Rattle.zone_map.specs.Puts.{without_all};
-ghost use Rattle.zone_planner.specs.Zones.{is_made_type};
 ghost use Rattle.update_denials.specs.Prepared.{is_made, IsUnsecured};
 
 use std::alloc::Global;
 use zone_map::RecordMap;
-use zone_proto::{ProtoError, RecordType, RrKey};
+use zone_proto::{ProtoError, RrKey, is_derived};
 
 /// The sets of a zone without those that are made where it is signed: RRSIG, NSEC, NSEC3 and NSEC3PARAM. Refused by `Memory` alone.
 pub(crate) fn unsecured(alloc: Global, records: RecordMap) -> Result<RecordMap, ProtoError>
@@ -29,7 +28,7 @@ fn made_keys(alloc: Global, records: &RecordMap) -> Result<Vec<RrKey>, ProtoErro
 {
     let mut keys = Vec::new(alloc);
     for (key, _) in records.iter() {
-        if is_made(key) {
+        if is_derived(key.record_type) {
             keys.push(key.clone()?)?;
         }
     }
@@ -43,14 +42,4 @@ fn remove_all(records: &mut RecordMap, keys: Vec<RrKey>)
     for key in keys {
         let _ = records.remove(&key);
     }
-}
-
-/// Whether a key is that of a set that is made where a zone is signed.
-fn is_made(key: &RrKey) -> bool
-    ensures { result ≡ is_made key.now }
-{
-    key.record_type == RecordType::RRSIG
-        || key.record_type == RecordType::NSEC
-        || key.record_type == RecordType::NSEC3
-        || key.record_type == RecordType::NSEC3PARAM
 }

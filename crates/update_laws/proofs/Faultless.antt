@@ -8,7 +8,7 @@ use Rattle.zone_proto.specs.declared.rr_key.RrKey.{RrKey}
 use Rattle.zone_proto.specs.Keys.{key}
 use Rattle.zone_proto.specs.Names.{Name, is_at_or_above, IsAtOrAbove, IsAbove}
 use Rattle.zone_proto.specs.Sets.{RRset}
-use Rattle.zone_proto.specs.Types.{SOA, CNAME}
+use Rattle.zone_proto.specs.Types.{SOA, CNAME, is_derived}
 use Rattle.zone_proto.proofs.Members.{In, In-map}
 use Rattle.zone_proto.proofs.Names.NameTree.{is_at_or_above_sound}
 use Rattle.zone_map.specs.Zones.{Sets, owns}
@@ -18,7 +18,7 @@ use Rattle.zone_planner.specs.declared.request.Request.{Request}
 use Rattle.zone_planner.specs.Faults.{denial_fault, plan_fault}
 use Rattle.zone_planner.specs.Keys.{keyed}
 use Rattle.zone_planner.specs.Requests.{keys_fault, moments_fault}
-use Rattle.zone_planner.specs.Zones.{apex_fault, first, is_made_type, set_fault, sets_fault, zone_fault}
+use Rattle.zone_planner.specs.Zones.{apex_fault, first, set_fault, sets_fault, zone_fault}
 use Rattle.zone_denial.specs.Chains.{is_below_dname}
 use Rattle.zone_planning.specs.declared.fault.PlanFault.{PlanFault}
 use Rattle.zone_planning.specs.declared.fault.PlanFault.TheVariants as fault
@@ -67,5 +67,5 @@ module _ (origin : Name) (m : Sets) (keys : List PlannedKey) (request : Request)
       let among : In (key n t) (keys_of m) = In-map (λ (e : RrKey × RRset). e.0) (key n t, entry.0) m entry.1 in
       is_at_or_above_sound origin n
       (passed (is_at_or_above origin n) (fault.Outside n)
-      (cond (is_made_type t) (Some (fault.Made n (key n t).record_type)) (cond (is_below_dname m n) (Some (fault.BelowDname n)) None))
+      (cond (is_derived t) (Some (fault.Made n (key n t).record_type)) (cond (is_below_dname m n) (Some (fault.BelowDname n)) None))
       (none_wrong (set_fault origin m) (keys_of m) (neither (apex_fault origin m) (sets_fault origin m) of_zone).1 (key n t) among))

@@ -4,10 +4,10 @@ use Rattle.std.specs.Prelude.{if◌then◌else◌}
 use Rattle.zone_proto.specs.Data.{type_of}
 use Rattle.zone_proto.specs.Keys.{key}
 use Rattle.zone_proto.specs.Names.{Name, lower}
-use Rattle.zone_proto.specs.Types.{ANY, IN}
+use Rattle.zone_proto.specs.Types.{ANY, IN, is_derived}
 use Rattle.zone_proto.proofs.Members.{and_left}
 use Rattle.zone_update.specs.Changes.{addition, change_by_class, change_of, deletion, if_permitted, record_deletion}
-use Rattle.zone_update.specs.Entries.{◌>>=◌, class_any, class_none, if_data, if_empty, is_derived, is_in_zone, is_meta, record_of}
+use Rattle.zone_update.specs.Entries.{◌>>=◌, class_any, class_none, if_data, if_empty, is_in_zone, is_meta, record_of}
 use Rattle.zone_update.specs.declared.change.Change.{Change}
 use Rattle.zone_update.specs.declared.change.Change.TheVariants.{Add, DeleteSet, DeleteName, DeleteRecord}
 use Rattle.zone_update.specs.declared.entry.Content.{Content}

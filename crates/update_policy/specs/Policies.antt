@@ -4,17 +4,14 @@ use Rattle.std.specs.Prelude.{ℕ, Bool, false, not, ◌==◌, ◌&&◌, ◌||�
 use Rattle.std.specs.List.{list_any}
 use Rattle.std.specs.Ordering.{eq_by_cmp}
 use Rattle.zone_proto.specs.Names.{Name, is_at_or_above, name_cmp}
-use Rattle.zone_proto.specs.Types.{ANY, NS, NSEC, NSEC3, NSEC3PARAM, RRSIG, SOA}
+use Rattle.zone_proto.specs.Types.{ANY, NS, SOA, is_derived}
 use Rattle.zone_proto.specs.declared.record_type.RecordType.{RecordType}
 use Rattle.update_policy.specs.declared.rule.Rule.{Rule}
 use Rattle.update_policy.specs.declared.rule.RuleScope.{RuleScope}
 use Rattle.update_policy.specs.declared.rule.RuleScope.TheVariants as scope
 
--- types whose sets follow from the others of the zone: no update changes them, whatever the rules say
-abbrev pub is_derived : ℕ → Bool
-is_derived t = t == NSEC || (t == NSEC3 || (t == NSEC3PARAM || t == RRSIG))
-
--- types that a rule without types isn't about: they say who serves the zone, or follow from the others
+-- types that a rule without types isn't about: they say who serves the zone, or are made from the others, and these no update changes,
+-- whatever the rules say
 abbrev pub is_withheld : ℕ → Bool
 is_withheld t = t == SOA || (t == NS || is_derived t)
 

@@ -1,11 +1,11 @@
 //! The table of rules.
 ghost use Rattle.std.specs.Prelude.{◌≡◌, option_copied};
-ghost use Rattle.update_policy.specs.Policies.{is_about, is_about_name, is_about_type, is_derived, is_name, is_withheld, names_type, permits, permits_requestor};
+ghost use Rattle.update_policy.specs.Policies.{is_about, is_about_name, is_about_type, is_name, is_withheld, names_type, permits, permits_requestor};
 ghost use Rattle.std.specs.List.{list_any};
 ghost use Rattle.zone_proto.specs.Names.{is_at_or_above};
 
 use crate::rule::{Rule, RuleScope};
-use zone_proto::{LowerName, RecordType};
+use zone_proto::{LowerName, RecordType, is_derived};
 
 /// Whether the owner of a key may change the set of a name and a type: the first rule that is about all three says so. What no rule is
 /// about isn't permitted, and nothing is without a key (RFC 2136 section 3.3). Doesn't allocate.
@@ -86,14 +86,4 @@ fn is_withheld(record_type: RecordType) -> bool
     ensures { result ≡ is_withheld record_type.0 }
 {
     record_type == RecordType::SOA || record_type == RecordType::NS || is_derived(record_type)
-}
-
-/// Whether the sets of a type follow from the others of the zone: denials, their parameters, and signatures.
-fn is_derived(record_type: RecordType) -> bool
-    ensures { result ≡ is_derived record_type.0 }
-{
-    record_type == RecordType::NSEC
-        || record_type == RecordType::NSEC3
-        || record_type == RecordType::NSEC3PARAM
-        || record_type == RecordType::RRSIG
 }

@@ -14,7 +14,7 @@ use crate::given::GivenRecord;
 use crate::repeats::{first_ones, warn_of_repeated};
 use crate::warning::LoadWarning;
 use std::alloc::Global;
-use zone_proto::{ProtoError, Record, RecordSet, RecordType, RrKey};
+use zone_proto::{ProtoError, Record, RecordSet, RrKey, is_single};
 
 /// Inserts records, in order and with this TTL, into the set of their owner and type, which has none, and warns of each that has the
 /// data of one before it. n records take time in the order of n log n. Its only error is `Memory`.
@@ -47,16 +47,6 @@ pub(crate) fn fill(
     }
     let first = first_ones(alloc, records, warnings)?;
     append_all(set, key, first, ttl, serial)
-}
-
-/// Whether a set of the type has at most one record.
-fn is_single(record_type: RecordType) -> bool
-    ensures { result ≡ is_single record_type.0 }
-{
-    matches!(
-        record_type,
-        RecordType::SOA | RecordType::CNAME | RecordType::ANAME
-    )
 }
 
 /// Warns of all records but the first, whose data they have.

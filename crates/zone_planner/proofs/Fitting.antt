@@ -10,7 +10,7 @@ use Rattle.zone_proto.specs.declared.rr_key.RrKey.{RrKey}
 use Rattle.zone_proto.specs.Keys.{key}
 use Rattle.zone_proto.specs.Names.{Name, is_at_or_above}
 use Rattle.zone_proto.specs.Sets.{RRset}
-use Rattle.zone_proto.specs.Types.{SOA, CNAME}
+use Rattle.zone_proto.specs.Types.{SOA, CNAME, is_derived}
 use Rattle.zone_proto.proofs.Members.{In, In-map, and_right}
 use Rattle.zone_map.specs.Zones.{Sets, owns}
 use Rattle.zone_map.proofs.Owned.{has_entry}
@@ -19,7 +19,7 @@ use Rattle.zone_planning.specs.declared.fault.PlanFault.{PlanFault}
 use Rattle.zone_planning.specs.declared.fault.PlanFault.TheVariants as fault
 use Rattle.zone_planner.specs.declared.keys.PlannedKey.{PlannedKey}
 use Rattle.zone_planner.specs.Requests.{can_stand, is_bad, is_revoked, IsShort, AreFit}
-use Rattle.zone_planner.specs.Zones.{apex_fault, first, is_made_type, set_fault, sets_fault, zone_fault}
+use Rattle.zone_planner.specs.Zones.{apex_fault, first, set_fault, sets_fault, zone_fault}
 
 -- ---- keys
 
@@ -64,7 +64,7 @@ fit_keys keys few none = record { few = few; short = at_each IsShort keys (all_s
 -- nothing is wrong with the sets of a zone
 pub record IsFitSet (origin : Name) (m : Sets) (n : Name) (t : ℕ) : Type 0 where
   pub inside : is_at_or_above origin n ≡ true
-  pub kept : is_made_type t ≡ false
+  pub kept : is_derived t ≡ false
   pub open' : is_below_dname m n ≡ false
 
 none_first : (o : Option PlanFault) (es : List PlanFault) → first (cons_option o es) ≡ None → (o ≡ None) × (first es ≡ None)
@@ -77,9 +77,9 @@ none_of f (q ∷ ks) e k (inl same) = ap f (sym same) ∙ (none_first (f q) (fil
 none_of f (q ∷ ks) e k (inr i) = none_of f ks (none_first (f q) (filter_map f ks) e).1 k i
 
 fit : (origin : Name) (m : Sets) (k : RrKey) → set_fault origin m k ≡ None → IsFitSet origin m k.name k.record_type.0
-fit origin m k e = by (is_at_or_above origin k.name) refl (is_made_type k.record_type.0) refl (is_below_dname m k.name) refl e
+fit origin m k e = by (is_at_or_above origin k.name) refl (is_derived k.record_type.0) refl (is_below_dname m k.name) refl e
   where
-    by : (a : Bool) → is_at_or_above origin k.name ≡ a → (b : Bool) → is_made_type k.record_type.0 ≡ b → (c : Bool) → is_below_dname m k.name ≡ c
+    by : (a : Bool) → is_at_or_above origin k.name ≡ a → (b : Bool) → is_derived k.record_type.0 ≡ b → (c : Bool) → is_below_dname m k.name ≡ c
         → cond (not a) (Some (fault.Outside k.name)) (cond b (Some (fault.Made k.name k.record_type)) (cond c (Some (fault.BelowDname k.name)) None)) ≡ None
         → IsFitSet origin m k.name k.record_type.0
     by true p false q false r h = record { inside = p; kept = q; open' = r }
@@ -99,7 +99,7 @@ module _ (origin : Name) (m : Sets) (faultless : zone_fault origin m ≡ None) w
       fit origin m (key n t) (none_of (set_fault origin m) (keys_of m) (parts (apex_fault origin m) (sets_fault origin m) faultless).1 (key n t) (In-map (λ (e : RrKey × RRset). e.0) (key n t, entry.0) m entry.1))
 
   -- none that signing makes stands there
-  pub none_made : (n : Name) (t : ℕ) → is_made_type t ≡ true → owns m n t ≡ false
+  pub none_made : (n : Name) (t : ℕ) → is_derived t ≡ true → owns m n t ≡ false
   none_made n t made = by (owns m n t) refl
     where
       by : (b : Bool) → owns m n t ≡ b → b ≡ false

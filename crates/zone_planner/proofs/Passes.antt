@@ -12,7 +12,7 @@ use Rattle.zone_proto.specs.declared.rr_key.RrKey.{RrKey}
 use Rattle.zone_proto.specs.Keys.{key, key_cmp}
 use Rattle.zone_proto.specs.Names.{Name, is_above, is_at_or_above}
 use Rattle.zone_proto.specs.Sets.{RRset}
-use Rattle.zone_proto.specs.Types.{NS, DS, NSEC, DNAME}
+use Rattle.zone_proto.specs.Types.{NS, DS, NSEC, DNAME, is_derived}
 use Rattle.zone_proto.proofs.Members.{In-from_any, any_from_In, In-map, and_left, and_right}
 use Rattle.zone_map.specs.Zones.{Sets, owners, owns}
 use Rattle.zone_map.proofs.Owned.{has_entry, owner_in, owner_owned}
@@ -20,7 +20,7 @@ use Rattle.zone_denial.specs.Authority.{is_below_cut}
 use Rattle.zone_denial.specs.Chains.{is_below_dname}
 use Rattle.zone_planning.specs.declared.fault.PlanFault.{PlanFault}
 use Rattle.zone_planning.specs.declared.fault.PlanFault.TheVariants as fault
-use Rattle.zone_planner.specs.Zones.{below, first, is_cut, is_left_out, is_made_type, left_out, set_fault, set_fault_below, sets_fault, top_after}
+use Rattle.zone_planner.specs.Zones.{below, first, is_cut, is_left_out, left_out, set_fault, set_fault_below, sets_fault, top_after}
 use Rattle.zone_planner.proofs.Tops.{covered, Passing, begun, here, next}
 
 eq_swap : (a b : ℕ) → (a == b) ≡ (b == a)
@@ -68,7 +68,7 @@ module _ (origin : Name) (m rest after : Sets) (e : RrKey × RRset) (dname : Opt
       ap
       (λ b.
       cond (not (is_at_or_above origin e.0.name)) (Some (fault.Outside e.0.name))
-      (cond (is_made_type e.0.record_type.0) (Some (fault.Made e.0.name e.0.record_type)) (cond b (Some (fault.BelowDname e.0.name)) None)))
+      (cond (is_derived e.0.record_type.0) (Some (fault.Made e.0.name e.0.record_type)) (cond b (Some (fault.BelowDname e.0.name)) None)))
       (sym (here is_dname (is_below_dname m) dname e.0 (keys_of after) passing))
 
   all_faults : first (cons_option (set_fault origin m e.0) (filter_map (set_fault origin m) (keys_of after))) ≡ sets_fault origin m

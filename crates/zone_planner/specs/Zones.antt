@@ -4,7 +4,7 @@ use Rattle.std.specs.Map.{keys_of}
 use Rattle.std.specs.Option.{option_map_or, option_or}
 use Rattle.zone_proto.specs.declared.rr_key.RrKey.{RrKey}
 use Rattle.zone_proto.specs.Names.{Name, is_above, is_at_or_above}
-use Rattle.zone_proto.specs.Types.{NS, CNAME, SOA, DS, RRSIG, NSEC, NSEC3, NSEC3PARAM}
+use Rattle.zone_proto.specs.Types.{NS, CNAME, SOA, DS, DNSKEY, NSEC, is_derived}
 use Rattle.zone_map.specs.Zones.{Sets, owns}
 use Rattle.zone_denial.specs.Authority.{is_below_cut}
 use Rattle.zone_denial.specs.Chains.{is_below_dname}
@@ -13,15 +13,15 @@ use Rattle.zone_planning.specs.declared.fault.PlanFault.TheVariants as fault
 
 -- ---- why a zone isn't planned
 
--- the types of the sets that are made where a zone is signed: signatures, denials, and the parameters of NSEC3
-abbrev pub is_made_type : ℕ → Bool
-is_made_type t = (t == RRSIG) || ((t == NSEC) || ((t == NSEC3) || (t == NSEC3PARAM)))
+-- the types of sets that are made anew where a zone is signed and its keys are given beside it: those that are derived, and the keys
+abbrev pub is_made_anew : ℕ → Bool
+is_made_anew t = is_derived t || (t == DNSKEY)
 
 -- why the set under a key can't stand in the zone of an origin: it stands outside of it, is made where the zone is signed, or stands below a DNAME (RFC 6672 section 2.4)
 abbrev pub set_fault : Name → Sets → RrKey → Option PlanFault
 set_fault origin m k =
     cond (not (is_at_or_above origin k.name)) (Some (fault.Outside k.name))
-    (cond (is_made_type k.record_type.0) (Some (fault.Made k.name k.record_type))
+    (cond (is_derived k.record_type.0) (Some (fault.Made k.name k.record_type))
     (cond (is_below_dname m k.name) (Some (fault.BelowDname k.name)) None))
 
 -- the first of faults
@@ -69,5 +69,5 @@ top_after is_top top k = cond (is_top k && not (below top k.name)) (Some k.name)
 abbrev pub set_fault_below : Name → Option Name → RrKey → Option PlanFault
 set_fault_below origin dname k =
     cond (not (is_at_or_above origin k.name)) (Some (fault.Outside k.name))
-    (cond (is_made_type k.record_type.0) (Some (fault.Made k.name k.record_type))
+    (cond (is_derived k.record_type.0) (Some (fault.Made k.name k.record_type))
     (cond (below dname k.name) (Some (fault.BelowDname k.name)) None))

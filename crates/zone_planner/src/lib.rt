@@ -15,3 +15,4 @@ pub use keys::{PlannedKey, planned_by_flags};
 pub use planning::make_plan;
 pub use request::Request;
 pub use signers::plan_signers;
+pub use zone::is_made_anew;

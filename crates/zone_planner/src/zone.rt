@@ -2,12 +2,12 @@
 ghost use Rattle.std.specs.Prelude.{◌≡◌, ◌==◌, ◌⊎◌, None, Some, IfErr, OnOk, IfOk, IsOkUnless, option_map};
 ghost use Rattle.zone_proto.specs.Names.{is_at_or_above};
 ghost use Rattle.zone_proto.specs.Types.{SOA as soa_type};
-ghost use Rattle.zone_planner.specs.Zones.{apex_fault, below, is_made_type, set_fault_below, sets_fault, top_after, zone_fault};
+ghost use Rattle.zone_planner.specs.Zones.{apex_fault, below, is_made_anew, set_fault_below, sets_fault, top_after, zone_fault};
 
 use zone_denial::authoritative_keys::is_above;
 use zone_map::RecordMap;
 use zone_planning::PlanFault;
-use zone_proto::{LowerName, Name, ProtoError, RecordType, RrKey};
+use zone_proto::{LowerName, Name, ProtoError, RecordType, RrKey, is_derived};
 
 /// Whether the zone whose SOA stands under `apex` can be planned. Refused by `NoSoa` and `CnameAtOrigin`; for the first set, by owner in
 /// canonical order (RFC 4034 section 6.1) and type, that can't stand in it by `Outside`, `Made` or `BelowDname`; and by `Memory`.
@@ -64,7 +64,7 @@ fn check_set(origin: &LowerName, dname: Option<&LowerName>, key: &RrKey) -> Resu
     if !is_at_or_above(origin, &key.name) {
         return Err(PlanFault::Outside(owner(key)?));
     }
-    if is_made_type(key.record_type) {
+    if is_derived(key.record_type) {
         return Err(PlanFault::Made(owner(key)?, key.record_type));
     }
     if is_below(dname, &key.name) {
@@ -92,14 +92,11 @@ fn next_dname<'a>(dname: Option<&'a LowerName>, key: &'a RrKey) -> Option<&'a Lo
     dname
 }
 
-/// Whether sets of a type are made where a zone is signed: RRSIG, NSEC, NSEC3 and NSEC3PARAM.
-fn is_made_type(record_type: RecordType) -> bool
-    ensures { result ≡ is_made_type record_type.0 }
+/// Whether sets of a type are made anew where a zone is signed and its keys are given beside it: those that are derived, and DNSKEY.
+pub fn is_made_anew(record_type: RecordType) -> bool
+    ensures { result ≡ is_made_anew record_type.0 }
 {
-    record_type == RecordType::RRSIG
-        || record_type == RecordType::NSEC
-        || record_type == RecordType::NSEC3
-        || record_type == RecordType::NSEC3PARAM
+    is_derived(record_type) || record_type == RecordType::DNSKEY
 }
 
 /// Whether a name stands below another, if there is one.

@@ -7,17 +7,7 @@ ghost use Rattle.zone_proto.specs.Results.{IsChange};
 use crate::error::ProtoError;
 use crate::rdata::RData;
 use crate::record::Record;
-use crate::record_type::RecordType;
-
-/// Whether a set of the type has at most one record.
-fn is_single(record_type: RecordType) -> bool
-    ensures { result ≡ is_single record_type.0 }
-{
-    matches!(
-        record_type,
-        RecordType::SOA | RecordType::CNAME | RecordType::ANAME
-    )
-}
+use crate::type_kinds::is_single;
 
 /// Whether these data are refused beside the stored records.
 pub(crate) fn is_refused(records: &[Record], new: &RData) -> bool

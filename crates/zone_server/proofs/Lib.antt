@@ -9,5 +9,7 @@ pub mod SentMessages
 pub mod AnswerFacts
 pub mod FrameLaws
 pub mod ServedFrames
+pub mod WrittenFronts
+pub mod StoppedFrames
 pub mod TransferFacts
 pub mod TransferRuns

@@ -46,7 +46,7 @@ kept_whole mode octets slice fs left same h long =
 -- ---- answers in their order
 
 module _ (server : Served) where
-  answers_join : (fs gs : List Framed) (text more : List ℕ) → AnswerFrames server fs text → AnswerFrames server gs more → AnswerFrames server (fs ++ gs) (text ++ more)
+  pub answers_join : (fs gs : List Framed) (text more : List ℕ) → AnswerFrames server fs text → AnswerFrames server gs more → AnswerFrames server (fs ++ gs) (text ++ more)
   answers_join [] gs text more e h = subst (λ (t : List ℕ). AnswerFrames server gs (t ++ more)) (sym e) h
   answers_join (f ∷ fs) gs text more (first, others, answer, e, h) g =
       (first, others ++ more, answer, ap (λ t. t ++ more) e ∙ append_assoc first others more, answers_join fs gs others more h g)

@@ -1,6 +1,7 @@
 -- Messages of a transfer one behind the other, and sets in pieces
-use Rattle.std.proofs.Common.{◌≡◌, inl, inr, ℕ, zero, suc, ◌≤◌, List, [], ◌∷◌, ◌++◌, length, map, take, refl, sym, ap, subst, ◌∙◌, append_assoc, append-nil, arith}
+use Rattle.std.proofs.Common.{◌≡◌, inl, inr, ℕ, zero, suc, ◌≤◌, List, [], ◌∷◌, ◌++◌, length, map, take, drop, refl, sym, ap, subst, ◌∙◌, append_assoc, append-nil, arith}
 use Rattle.std.specs.Prelude.{◌≢◌, Option}
+use Rattle.std.proofs.lemmas.List.{take-append-drop}
 use Rattle.std.proofs.lemmas.List.Concat.{flat_map-append}
 use Rattle.zone_proto.specs.declared.record.Record.{Record}
 use Rattle.message_reading.specs.declared.query.Query.{Query as ReadQuery}
@@ -9,9 +10,11 @@ use Rattle.message_writing.specs.Outcomes.{HasUnwritable}
 use Rattle.message_writing.specs.Responses.{all_records, records_of}
 use Rattle.zone_server.specs.Frames.{framed}
 use Rattle.zone_server.specs.Serving.{Moves}
+use Rattle.zone_server.specs.Stopping.{MovesFront}
 use Rattle.zone_server.specs.Transfers.{joined, one_by_one, AreMessages, ArePiecesOf, AreTooLong, HasTooLong, HasUnsendable, IsCutInto, IsTransferMessage}
-use Rattle.zone_server.specs.TransferSteps.{HasBrokenOff, HasSent, HasSentSets}
+use Rattle.zone_server.specs.TransferSteps.{HasBrokenOff, HasSent, HasSentSets, HasStopped}
 use Rattle.zone_server.proofs.ServedFrames.{moved_on, nothing_moved}
+use Rattle.zone_server.proofs.WrittenFronts.{front_after, none_front}
 
 -- ---- lists of lists
 
@@ -26,6 +29,12 @@ joined_one_by_one (r ∷ rs) = ap (λ xs. r ∷ xs) (joined_one_by_one rs)
 pub joined_groups : (gs : List Group) → joined (map records_of gs) ≡ all_records gs
 joined_groups [] = refl
 joined_groups (g ∷ gs) = ap (λ xs. records_of g ++ xs) (joined_groups gs)
+
+-- the records of the first of some groups, so many, and of the others
+pub groups_parted : (count : ℕ) (gs : List Group) → all_records gs ≡ joined (map records_of (take count gs)) ++ all_records (drop count gs)
+groups_parted count gs =
+    ap all_records (sym (take-append-drop count gs)) ∙ flat_map-append records_of (take count gs) (drop count gs)
+    ∙ ap (λ xs. xs ++ all_records (drop count gs)) (sym (joined_groups (take count gs)))
 
 -- the first of some groups, so many but none, are some
 pub some_first : (count : ℕ) (gs : List Group) → (count ≡ 0 → ⊥) → count ≤ length gs → map records_of (take count gs) ≢ []
@@ -172,3 +181,65 @@ module _ (q : ReadQuery) where
       → HasBrokenOff q (joined ss ++ rs) a c u w
   broken_after_sets ss rs a b c u v w first h =
       subst (λ s. HasBrokenOff q (s ++ rs) a c u w) (pieces_joined ss first.pieces first.cut) (broken_after first.pieces rs a b c u v w first.sent h)
+
+  -- ---- where it stopped
+
+  pub stopped_at_once : (rs : List Record) (waiting : List ℕ) (h : Option (List ℕ)) → HasStopped q rs waiting h h
+  stopped_at_once rs waiting h = record {
+    pieces = [];
+    left = rs;
+    parts = refl;
+    text = [];
+    messages = [];
+    parted = refl;
+    written = refl;
+    front = none_front (waiting ++ []) h;
+  }
+
+  -- a message couldn't be put behind what waited, or written
+  pub message_stopped : (pieces : List (List Record)) (rs left : List Record) (octets waited : List ℕ) (h k : Option (List ℕ)) → pieces ≢ []
+      → rs ≡ joined pieces ++ left → IsTransferMessage q (joined pieces) octets → MovesFront (waited ++ framed octets) h k → HasStopped q rs waited h k
+  message_stopped pieces rs left octets waited h k some parts message front = record {
+    pieces = pieces;
+    left = left;
+    parts = parts;
+    text = framed octets;
+    messages = pieces ∷ [];
+    parted = append-nil pieces;
+    written = (octets, [], some, message, sym (append-nil (framed octets)), refl);
+    front = front;
+  }
+
+  -- more records behind those, which don't come to be sent
+  pub stopped_before : (rs more : List Record) (a : List ℕ) (u v : Option (List ℕ)) → HasStopped q rs a u v → HasStopped q (rs ++ more) a u v
+  stopped_before rs more a u v h = record {
+    pieces = h.pieces;
+    left = h.left ++ more;
+    parts = ap (λ s. s ++ more) h.parts ∙ append_assoc (joined h.pieces) h.left more;
+    text = h.text;
+    messages = h.messages;
+    parted = h.parted;
+    written = h.written;
+    front = h.front;
+  }
+
+  -- pieces were sent before
+  pub stopped_after : (ps : List (List Record)) (rs : List Record) (a b : List ℕ) (u v w : Option (List ℕ)) → HasSent q ps a b u v → HasStopped q rs b v w
+      → HasStopped q (joined ps ++ rs) a u w
+  stopped_after ps rs a b u v w first h = record {
+    pieces = ps ++ h.pieces;
+    left = h.left;
+    parts = ap (λ s. joined ps ++ s) h.parts ∙ sym (append_assoc (joined ps) (joined h.pieces) h.left)
+        ∙ ap (λ s. s ++ h.left) (sym (joined-append ps h.pieces));
+    text = first.text ++ h.text;
+    messages = first.messages ++ h.messages;
+    parted = joined-append first.messages h.messages ∙ (λ i. first.parted i ++ h.parted i);
+    written = messages_join first.messages h.messages first.text h.text first.written h.written;
+    front = subst (λ (t : List ℕ). MovesFront t u w) (append_assoc a first.text h.text) (front_after (a ++ first.text) b h.text u v w first.moved h.front);
+  }
+
+  -- sets were
+  pub stopped_after_sets : (ss : List (List Record)) (rs : List Record) (a b : List ℕ) (u v w : Option (List ℕ)) → HasSentSets q ss a b u v → HasStopped q rs b v w
+      → HasStopped q (joined ss ++ rs) a u w
+  stopped_after_sets ss rs a b u v w first h =
+      subst (λ s. HasStopped q (s ++ rs) a u w) (pieces_joined ss first.pieces first.cut) (stopped_after first.pieces rs a b u v w first.sent h)

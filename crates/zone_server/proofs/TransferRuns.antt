@@ -1,6 +1,6 @@
 -- A transfer message by message: what is left of it, and where it ends
 use Rattle.std.proofs.Common.{◌≡◌, ◌⊎◌, inl, inr, ℕ, zero, suc, ◌<◌, Bool, false, List, [], ◌∷◌, ◌++◌, length, map, take, drop, refl, sym, ap, subst, ◌∙◌, append_assoc, append-nil, arith, true≢false}
-use Rattle.std.specs.Prelude.{◌≢◌, ◌==◌, IfErr, OnOk, Option, Some, Result, Ok, Err}
+use Rattle.std.specs.Prelude.{◌≢◌, ◌==◌, IfErr, OnErr, OnOk, Option, Some, Result, Ok, Err}
 use Rattle.std.proofs.lemmas.List.{map-append, take-append-drop}
 use Rattle.zone_proto.specs.declared.record.Record.{Record}
 use Rattle.message_reading.specs.declared.query.Query.{Query as ReadQuery}
@@ -20,10 +20,12 @@ use Rattle.zone_response.specs.Sections.{Sections}
 use Rattle.zone_server.specs.Answers.{GoesOut, IsSent}
 use Rattle.zone_server.specs.Frames.{framed}
 use Rattle.zone_server.specs.Serving.{Moves, Puts}
-use Rattle.zone_server.specs.Transfers.{joined, one_by_one, transfer_parts, AreBrokenOff, AreSentWhole, AreTooLong, HasTooLong, IsOneMessage}
-use Rattle.zone_server.specs.TransferSteps.{Halts, HasBrokenOff, HasSent, HasSentFirst, HasSentPieces, HasSentSets, WritesMessage}
+use Rattle.zone_server.specs.Stopping.{BeginsSets, MovesFront, Stops}
+use Rattle.zone_server.specs.Transfers.{joined, one_by_one, transfer_parts, AreBrokenOff, AreMessages, AreSentWhole, AreTooLong, HasTooLong, IsOneMessage}
+use Rattle.zone_server.specs.TransferSteps.{Halts, HasBrokenOff, HasSent, HasSentFirst, HasSentPieces, HasSentSets, HasStopped, WritesMessage}
 use Rattle.zone_server.proofs.ServedFrames.{moved_on}
-use Rattle.zone_server.proofs.TransferFacts.{broken_after, broken_after_sets, broken_before, joined-append, joined_one_by_one, none_sent, no_sets_sent, sent_more, set_sent_singly, sets_sent_more, sets_sent_whole}
+use Rattle.zone_server.proofs.WrittenFronts.{front_after, moved_front, on_err_from, text_stops}
+use Rattle.zone_server.proofs.TransferFacts.{broken_after, broken_after_sets, broken_before, joined-append, joined_one_by_one, none_sent, no_sets_sent, sent_more, set_sent_singly, sets_sent_more, sets_sent_whole, stopped_after, stopped_after_sets, stopped_before}
 
 -- ---- a message
 
@@ -73,17 +75,17 @@ module _ (q : ReadQuery) where
 
   pub halts_before : (rs more : List Record) (a b : List ℕ) (u v : Option (List ℕ)) (e : Halt) → Halts q rs a b u v e → Halts q (rs ++ more) a b u v e
   halts_before rs more a b u v halt.Unsendable h = broken_before q rs more a b u v h
-  halts_before rs more a b u v (halt.Stop stop) h = tt
+  halts_before rs more a b u v (halt.Stop stop) h = stopped_before q rs more a u v h
 
   pub halts_after : (ps : List (List Record)) (rs : List Record) (a b c : List ℕ) (u v w : Option (List ℕ)) (e : Halt) → HasSent q ps a b u v → Halts q rs b c v w e
       → Halts q (joined ps ++ rs) a c u w e
   halts_after ps rs a b c u v w halt.Unsendable first h = broken_after q ps rs a b c u v w first h
-  halts_after ps rs a b c u v w (halt.Stop stop) first h = tt
+  halts_after ps rs a b c u v w (halt.Stop stop) first h = stopped_after q ps rs a b u v w first h
 
   halts_after_sets : (ss : List (List Record)) (rs : List Record) (a b c : List ℕ) (u v w : Option (List ℕ)) (e : Halt) → HasSentSets q ss a b u v → Halts q rs b c v w e
       → Halts q (joined ss ++ rs) a c u w e
   halts_after_sets ss rs a b c u v w halt.Unsendable first h = broken_after_sets q ss rs a b c u v w first h
-  halts_after_sets ss rs a b c u v w (halt.Stop stop) first h = tt
+  halts_after_sets ss rs a b c u v w (halt.Stop stop) first h = stopped_after_sets q ss rs a b u v w first h
 
   -- ---- pieces that are left
 
@@ -268,23 +270,28 @@ module _ (q : ReadQuery) where
     moved = h.sent.moved;
   }
 
+  -- and then a message of ServFail
+  broken_text : (sets : List (List Record)) (last a b : List ℕ) (u v : Option (List ℕ)) → (h : HasBrokenOff q (joined sets) a b u v)
+      → IsSent 65535 q (bare code.ServFail) last → AreBrokenOff q sets (h.sent.text ++ framed last)
+  broken_text sets last a b u v h failed = record {
+    sent = joined h.pieces;
+    left = h.left;
+    parts = h.parts;
+    unsendable = h.unsendable;
+    messages = h.sent.messages;
+    parted = ap joined h.sent.parted;
+    written_text = h.sent.text;
+    written = h.sent.written;
+    last = last;
+    failed = failed;
+    text_is = refl;
+  }
+
   pub zone_broken_off : (sets : List (List Record)) (last a b c : List ℕ) (u v w : Option (List ℕ)) → HasBrokenOff q (joined sets) a b u v
       → IsSent 65535 q (bare code.ServFail) last → Moves (b ++ framed last) v w c → Puts (λ text. AreSentWhole q sets text ⊎ AreBrokenOff q sets text) a c u w
   zone_broken_off sets last a b c u v w h failed moved = record {
     text = h.sent.text ++ framed last;
-    is = inr (record {
-      sent = joined h.pieces;
-      left = h.left;
-      parts = h.parts;
-      unsendable = h.unsendable;
-      messages = h.sent.messages;
-      parted = ap joined h.sent.parted;
-      written_text = h.sent.text;
-      written = h.sent.written;
-      last = last;
-      failed = failed;
-      text_is = refl;
-    });
+    is = inr (broken_text sets last a b u v h failed);
     moved = subst (λ (t : List ℕ). Moves t u w c) (append_assoc a h.sent.text (framed last)) (moved_on (a ++ h.sent.text) b (framed last) c u v w h.sent.moved moved);
   }
 
@@ -300,3 +307,36 @@ module _ (q : ReadQuery) where
   message_put (Ok done) limit s octets a b u v out moved =
       record { text = framed octets; is = record { octets = octets; goes_out = out; text_is = refl }; moved = moved }
   message_put (Err stop) limit s octets a b u v out moved = tt
+
+  -- ---- the whole, where it stops
+
+  -- the first messages of sets
+  first_messages : (sets pieces : List (List Record)) (left : List Record) (messages : List (List (List Record))) (text : List ℕ) → joined sets ≡ joined pieces ++ left
+      → joined messages ≡ pieces → AreMessages q messages text → BeginsSets q sets text
+  first_messages sets pieces left messages text parts parted written =
+      inl (record { sent = joined pieces; left = left; parts = parts; messages = messages; parted = ap joined parted; written = written })
+
+  pub zone_stops : (sets : List (List Record)) (a : List ℕ) (u v : Option (List ℕ)) → HasStopped q (joined sets) a u v → Stops (BeginsSets q sets) a u v
+  zone_stops sets a u v h =
+      text_stops (BeginsSets q sets) h.text a u v (first_messages sets h.pieces h.left h.messages h.text h.parts h.parted h.written) h.front
+
+  -- before the message of ServFail
+  pub zone_broken_stops : (sets : List (List Record)) (a b : List ℕ) (u v : Option (List ℕ)) → HasBrokenOff q (joined sets) a b u v → Stops (BeginsSets q sets) a u v
+  zone_broken_stops sets a b u v h =
+      text_stops (BeginsSets q sets) h.sent.text a u v (first_messages sets h.pieces h.left h.sent.messages h.sent.text h.parts h.sent.parted h.sent.written)
+      (moved_front (a ++ h.sent.text) b u v h.sent.moved)
+
+  -- at it
+  pub zone_broken_unput : (r : Result (Unit {0}) Stop) (sets : List (List Record)) (last a b : List ℕ) (u v w : Option (List ℕ)) → HasBrokenOff q (joined sets) a b u v
+      → IsSent 65535 q (bare code.ServFail) last → OnErr r (MovesFront (b ++ framed last) v w) → OnErr r (Stops (BeginsSets q sets) a u w)
+  zone_broken_unput r sets last a b u v w h failed front =
+      on_err_from r (MovesFront (b ++ framed last) v w) (Stops (BeginsSets q sets) a u w)
+      (λ f. text_stops (BeginsSets q sets) (h.sent.text ++ framed last) a u w (inr (inr (broken_text sets last a b u v h failed)))
+      (subst (λ (t : List ℕ). MovesFront t u w) (append_assoc a h.sent.text (framed last)) (front_after (a ++ h.sent.text) b (framed last) u v w h.sent.moved f))) front
+
+  -- one message
+  pub message_unput : (r : Result (Unit {0}) Stop) (limit : ℕ) (s : Sections) (octets a : List ℕ) (u v : Option (List ℕ)) → GoesOut limit q s octets
+      → OnErr r (MovesFront (a ++ framed octets) u v) → OnErr r (Stops (IsOneMessage limit q s) a u v)
+  message_unput r limit s octets a u v out front =
+      on_err_from r (MovesFront (a ++ framed octets) u v) (Stops (IsOneMessage limit q s) a u v)
+      (λ f. text_stops (IsOneMessage limit q s) (framed octets) a u v (record { octets = octets; goes_out = out; text_is = refl }) f) front

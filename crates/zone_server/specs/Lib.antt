@@ -7,4 +7,5 @@ pub mod Sending
 pub mod Frames
 pub mod Transfers
 pub mod Serving
+pub mod Stopping
 pub mod TransferSteps

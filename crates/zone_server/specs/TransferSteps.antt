@@ -14,6 +14,7 @@ use Rattle.zone_server.specs.declared.transfer_reply.TransferReply.{TransferRepl
 use Rattle.zone_server.specs.declared.transfer_reply.TransferReply.TheVariants as replies
 use Rattle.zone_server.specs.Answers.{code_number}
 use Rattle.zone_server.specs.Serving.{Moves}
+use Rattle.zone_server.specs.Stopping.{MovesFront}
 use Rattle.zone_server.specs.Transfers.{joined, by_code, by_soa, by_zone, AreMessages, ArePiecesOf, HasUnsendable, IsTransferMessage, Reply}
 
 -- a message of the first of some groups was written, so many as it has room for
@@ -64,10 +65,21 @@ pub record HasBrokenOff (q : ReadQuery) (records : List Record) (waited waiting 
   pub unsendable : HasUnsendable q left
   pub sent : HasSent q pieces waited waiting held_before held_after
 
+-- so were the first of some records, and no more, since frames can't be served any more; of all that waited a front was written
+pub record HasStopped (q : ReadQuery) (records : List Record) (waited : List ℕ) (held_before held_after : Option (List ℕ)) : Type 0 where
+  pub pieces : List (List Record)
+  pub left : List Record
+  pub parts : records ≡ joined pieces ++ left
+  pub text : List ℕ
+  pub messages : List (List (List Record))
+  pub parted : joined messages ≡ pieces
+  pub written : AreMessages q messages text
+  pub front : MovesFront (waited ++ text) held_before held_after
+
 -- why the sending of records ended before its end
 abbrev pub Halts : ReadQuery → List Record → List ℕ → List ℕ → Option (List ℕ) → Option (List ℕ) → Halt → Type 0
 Halts q records waited waiting held_before held_after halt.Unsendable = HasBrokenOff q records waited waiting held_before held_after
-Halts q records waited waiting held_before held_after (halt.Stop stop) = Unit {0}
+Halts q records waited waiting held_before held_after (halt.Stop stop) = HasStopped q records waited held_before held_after
 
 -- a reply as the program keeps it
 abbrev pub reply_kept : TransferReply → Reply

@@ -22,7 +22,7 @@ use Rattle.zone_response.specs.Responses.{bare}
 use Rattle.zone_response.specs.Sections.{Sections, as_it_is}
 use Rattle.message_writing.specs.Fronts.{HasNoRoomFor}
 use Rattle.message_writing.specs.Outcomes.{HasUnwritable}
-use Rattle.message_writing.specs.Responses.{opt_for, with_ttl}
+use Rattle.message_writing.specs.Responses.{opt_for, records_together}
 use Rattle.zone_server.specs.declared.transport.Transport.{Transport}
 use Rattle.zone_server.specs.declared.transport.Transport.TheVariants as transports
 use Rattle.zone_server.specs.Answers.{GoesOut, IsSent}
@@ -30,10 +30,6 @@ use Rattle.zone_server.specs.Frames.{framed}
 use Rattle.zone_server.specs.Limits.{datagram_size, limit_for}
 
 -- ---- the records of a zone
-
--- the records of a set and then its signatures, with the TTL of the set (RFC 2181 section 5.2, RFC 4034 section 3)
-abbrev pub records_together : RRset → List Record
-records_together s = map (with_ttl s.ttl) (s.records ++ s.signatures)
 
 -- the SOA, whose signatures go with the other sets
 abbrev pub soa_alone : RRset → RRset

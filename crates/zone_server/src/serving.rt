@@ -1,8 +1,9 @@
 //! Frames answered over any reader and writer (RFC 1035 section 4.2.2, RFC 7766).
-ghost use Rattle.std.specs.Prelude.{◌≡◌, ◌<◌, [], None, Ok, length, IfOk, OnOk};
+ghost use Rattle.std.specs.Prelude.{◌≡◌, ◌<◌, [], None, Ok, length, IfOk, OnErr, OnOk};
 ghost use Rattle.message_reading.specs.Queries.{query_of, ReadsQuery};
 ghost use Rattle.zone_server.specs.Frames.{frame_of, framed_of};
 ghost use Rattle.zone_server.specs.Serving.{served_of, Answers, AnswersQuery, IsOneAnswer, Puts, Serves, TakesFrames};
+ghost use Rattle.zone_server.specs.Stopping.{BeginsAnswer, BeginsQuery, BreaksOff, IsOneAnswerTo, Stops, StopsWithin};
 
 use crate::answering::answer_read;
 use crate::frames::{Frame, Mode, frame_of};
@@ -39,7 +40,8 @@ const CHUNK: usize = 65_536;
 /// at most two messages wait, and a transfer is written as it is made, from the zone's own records.
 ///
 /// # Errors
-/// The first cause that ends it before the input does. The answers that weren't written by then are lost.
+/// The first cause that ends it before the input does. What was written by then is a front of the answers, in the order of the frames, which may end
+/// within a message; the other answers are lost.
 pub fn serve_frames<S: Signer, H: Nsec3Hash, R: Read, W: Write>(
     alloc: Global,
     server: &Server<'_, '_, S, H>,
@@ -47,7 +49,11 @@ pub fn serve_frames<S: Signer, H: Nsec3Hash, R: Read, W: Write>(
     input: &mut R,
     output: &mut W,
 ) -> Result<(), Stop>
-    ensures { OnOk result (Serves (served_of S.signature_of H.digest_of server.now) mode
+    ensures served { OnOk result (Serves (served_of S.signature_of H.digest_of server.now) mode
+        (R.remaining input.old) (R.remaining input.new)
+        (W.contents output.old) (W.contents output.new)) }
+    ensures broken_off { OnErr result
+        (BreaksOff (served_of S.signature_of H.digest_of server.now) mode
         (R.remaining input.old) (R.remaining input.new)
         (W.contents output.old) (W.contents output.new)) }
 {
@@ -65,7 +71,11 @@ fn serve_in_chunks<S: Signer, H: Nsec3Hash, R: Read, W: Write>(
     chunk: &mut [u8],
 ) -> Result<(), Stop>
     requires { 0 < length chunk.old }
-    ensures { OnOk result (Serves (served_of S.signature_of H.digest_of server.now) mode
+    ensures served { OnOk result (Serves (served_of S.signature_of H.digest_of server.now) mode
+        (R.remaining input.old) (R.remaining input.new)
+        (W.contents output.old) (W.contents output.new)) }
+    ensures broken_off { OnErr result
+        (BreaksOff (served_of S.signature_of H.digest_of server.now) mode
         (R.remaining input.old) (R.remaining input.new)
         (W.contents output.old) (W.contents output.new)) }
 {
@@ -100,6 +110,9 @@ fn serve_waiting<S: Signer, H: Nsec3Hash, W: Write>(
         (W.contents output.old) (W.contents output.new)) }
     ensures no_more { OnOk result (frame_of mode waiting.new.items ≡ None) }
     ensures written { OnOk result (answers.new.items ≡ []) }
+    ensures stopped { OnErr result
+        (StopsWithin (served_of S.signature_of H.digest_of server.now) mode
+        waiting.old.items [] (W.contents output.old) (W.contents output.new)) }
 {
     let left = answer_frames(alloc, server, mode, waiting.as_slice(), answers, output)?;
     if left.len() < waiting.len() {
@@ -124,6 +137,9 @@ fn answer_frames<'o, S: Signer, H: Nsec3Hash, W: Write>(
         left.now answers.old.items answers.new.items
         (W.contents output.old) (W.contents output.new)) }
     ensures no_more { IfOk result (λ left. frame_of mode left.now ≡ None) }
+    ensures stopped { OnErr result
+        (StopsWithin (served_of S.signature_of H.digest_of server.now) mode
+        octets.now answers.old.items (W.contents output.old) (W.contents output.new)) }
 {
     let mut out = Vec::new(alloc);
     let mut rest = octets;
@@ -143,9 +159,13 @@ fn answer_frame<S: Signer, H: Nsec3Hash, W: Write>(
     answers: &mut Vec<u8>,
     output: &mut W,
 ) -> Result<(), Stop>
-    ensures { OnOk result
+    ensures put { OnOk result
         (Puts (Answers (served_of S.signature_of H.digest_of server.now) (framed_of frame.entry))
         answers.old.items answers.new.items
+        (W.contents output.old) (W.contents output.new)) }
+    ensures stopped { OnErr result
+        (Stops (BeginsAnswer (served_of S.signature_of H.digest_of server.now)
+        (framed_of frame.entry)) answers.old.items
         (W.contents output.old) (W.contents output.new)) }
 {
     match read_query(alloc, frame.message) {
@@ -165,9 +185,13 @@ fn answer_query<S: Signer, H: Nsec3Hash, W: Write>(
     output: &mut W,
 ) -> Result<(), Stop>
     requires { query_of frame.message.now ≡ Ok query }
-    ensures { OnOk result
+    ensures put { OnOk result
         (Puts (AnswersQuery (served_of S.signature_of H.digest_of server.now)
         (framed_of frame.entry) query) answers.old.items answers.new.items
+        (W.contents output.old) (W.contents output.new)) }
+    ensures stopped { OnErr result
+        (Stops (BeginsQuery (served_of S.signature_of H.digest_of server.now)
+        (framed_of frame.entry) query) answers.old.items
         (W.contents output.old) (W.contents output.new)) }
 {
     if asks_for_transfer(frame.transport, &query) {
@@ -192,6 +216,10 @@ fn answer_once<S: Signer, H: Nsec3Hash, W: Write>(
         (framed_of frame.entry)) answers.old.items answers.new.items
         (W.contents output.old) (W.contents output.new)) }
     ensures read { OnOk result (query_of frame.entry.message.now ≡ read) }
+    ensures stopped { OnErr result
+        (Stops (IsOneAnswerTo (served_of S.signature_of H.digest_of server.now)
+        (framed_of frame.entry) read) answers.old.items
+        (W.contents output.old) (W.contents output.new)) }
 {
     answer_read(alloc, server.zones, read, frame.transport, out)?;
     put_answer(out.as_slice(), answers, output)

@@ -1,7 +1,7 @@
 //! The records of a zone as a transfer sends them (RFC 5936 section 2.2).
 ghost use Rattle.std.specs.Prelude.{◌≡◌, ◌++◌, OnOk, map};
-ghost use Rattle.message_writing.specs.Responses.{records_of, with_ttl};
-ghost use Rattle.zone_server.specs.Transfers.{between, one_by_one, records_together, soa_alone};
+ghost use Rattle.message_writing.specs.Responses.{records_of, records_together, with_ttl};
+ghost use Rattle.zone_server.specs.Transfers.{between, one_by_one, soa_alone};
 
 use message_writing::Group;
 use std::alloc::AllocError;

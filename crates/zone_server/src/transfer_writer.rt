@@ -1,8 +1,9 @@
 //! A zone in messages one behind the other (RFC 5936 section 2.2).
-ghost use Rattle.std.specs.Prelude.{◌≡◌, ◌⊎◌, ◌≤◌, ◌+◌, ◌++◌, ◌∷◌, [], IfErr, IfOk, OnOk, drop, length, map, take};
+ghost use Rattle.std.specs.Prelude.{◌≡◌, ◌⊎◌, ◌≤◌, ◌+◌, ◌++◌, ◌∷◌, [], IfErr, IfOk, OnErr, OnOk, drop, length, map, take};
 ghost use Rattle.message_writing.specs.Fronts.{FirstHasNoRoom};
 ghost use Rattle.message_writing.specs.Responses.{all_records, records_of};
 ghost use Rattle.zone_server.specs.Serving.{Puts};
+ghost use Rattle.zone_server.specs.Stopping.{BeginsSets, Stops};
 ghost use Rattle.zone_server.specs.Transfers.{groups_sent, joined, one_by_one, AreBrokenOff, AreSentWhole};
 ghost use Rattle.zone_server.specs.TransferSteps.{Halts, HasSent, HasSentFirst, HasSentSets, WritesMessage};
 
@@ -63,10 +64,13 @@ pub(crate) fn send_zone<W: Write>(
     answers: &mut Vec<u8>,
     output: &mut W,
 ) -> Result<(), Stop>
-    ensures { OnOk result (Puts
+    ensures sent { OnOk result (Puts
         (λ text. AreSentWhole query.now (groups_sent soa.now sets.now) text
         ⊎ AreBrokenOff query.now (groups_sent soa.now sets.now) text)
         answers.old.items answers.new.items
+        (W.contents output.old) (W.contents output.new)) }
+    ensures stopped { OnErr result (Stops
+        (BeginsSets query.now (groups_sent soa.now sets.now)) answers.old.items
         (W.contents output.old) (W.contents output.new)) }
 {
     match send_sets(alloc, query, soa, sets, out, answers, output) {

@@ -1,7 +1,8 @@
 //! Queries for a whole zone, or for a zone's changes, answered (RFC 5936, RFC 1995).
-ghost use Rattle.std.specs.Prelude.{OnOk};
+ghost use Rattle.std.specs.Prelude.{OnErr, OnOk};
 ghost use Rattle.zone_server.specs.Frames.{framed_of};
 ghost use Rattle.zone_server.specs.Serving.{served_of, Puts};
+ghost use Rattle.zone_server.specs.Stopping.{BeginsReply, Stops};
 ghost use Rattle.zone_server.specs.Transfers.{reply_to, Replies};
 ghost use Rattle.zone_server.specs.TransferSteps.{reply_kept, HasSmallCode};
 
@@ -28,11 +29,15 @@ pub(crate) fn answer_transfer<S: Signer, H: Nsec3Hash, W: Write>(
     answers: &mut Vec<u8>,
     output: &mut W,
 ) -> Result<(), Stop>
-    ensures { OnOk result (Puts (Replies frame.entry.transport query.now
+    ensures put { OnOk result (Puts (Replies frame.entry.transport query.now
         (reply_to (served_of S.signature_of H.digest_of server.now).zones server.now.policies.now
         frame.entry.transport frame.entry.message.now query.now))
         answers.old.items answers.new.items
         (W.contents output.old) (W.contents output.new)) }
+    ensures stopped { OnErr result (Stops (BeginsReply frame.entry.transport query.now
+        (reply_to (served_of S.signature_of H.digest_of server.now).zones server.now.policies.now
+        frame.entry.transport frame.entry.message.now query.now))
+        answers.old.items (W.contents output.old) (W.contents output.new)) }
 {
     let (zones, policies) = (server.zones, server.policies);
     let reply = reply_to(
@@ -57,9 +62,13 @@ fn send_reply<W: Write>(
     output: &mut W,
 ) -> Result<(), Stop>
     requires { HasSmallCode reply }
-    ensures { OnOk result (Puts (Replies frame.entry.transport query.now (reply_kept reply.entry))
+    ensures put { OnOk result
+        (Puts (Replies frame.entry.transport query.now (reply_kept reply.entry))
         answers.old.items answers.new.items
         (W.contents output.old) (W.contents output.new)) }
+    ensures stopped { OnErr result
+        (Stops (BeginsReply frame.entry.transport query.now (reply_kept reply.entry))
+        answers.old.items (W.contents output.old) (W.contents output.new)) }
 {
     let limit = limit_for(frame.transport, query);
     match reply {

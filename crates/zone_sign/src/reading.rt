@@ -2,7 +2,7 @@
 ghost use Rattle.std.specs.Prelude.{◌≡◌, ℕ, List, Some, IfOk, IfSome};
 ghost use Rattle.std.specs.List.{};
 ghost use Rattle.zone_map.specs.Zones.{IsZone};
-ghost use Rattle.zone_sign.specs.Zones.{given_of, is_made, unsigned};
+ghost use Rattle.zone_sign.specs.Zones.{given_of, unsigned};
 ghost use Rattle.zone_texts.specs.Inclusions.{Files, records_of};
 ghost use Rattle.zone_texts.specs.Readings.{IsReadOf};
 
@@ -15,7 +15,8 @@ use std::fs;
 use std::io::{Read, Write};
 use zone_builder::{GivenRecord, LoadFault, Loaded, load};
 use zone_file::PlacedRecord;
-use zone_proto::{LowerName, Name, RData, Record, RecordType, Seq};
+use zone_planner::is_made_anew;
+use zone_proto::{LowerName, Name, RData, Record, Seq};
 use zone_texts::{FaultLines, FilesError, Reading, Sources, Texts, read_files};
 
 /// How many faults of a file are reported.
@@ -189,7 +190,7 @@ fn unsigned(alloc: Global, records: Vec<PlacedRecord>) -> Result<Vec<GivenRecord
 {
     records
         .into_iter()
-        .filter(|placed| !is_made(placed.given.record_type()))
+        .filter(|placed| !is_made_anew(placed.given.record_type()))
         .map(given)
         .collect(alloc)
 }
@@ -225,15 +226,4 @@ fn given(placed: PlacedRecord) -> GivenRecord
         record: placed.given,
         place: Some(placed.place),
     }
-}
-
-/// Whether records of a type are made anew when a zone is signed.
-fn is_made(record_type: RecordType) -> bool
-    ensures { result ≡ is_made record_type.0 }
-{
-    record_type == RecordType::RRSIG
-        || record_type == RecordType::NSEC
-        || record_type == RecordType::NSEC3
-        || record_type == RecordType::NSEC3PARAM
-        || record_type == RecordType::DNSKEY
 }

@@ -1,7 +1,6 @@
 -- The records of an update as they stand in its message, and refusals of it (RFC 2136 section 2)
 use Rattle.std.specs.Prelude.{◌≡◌, ℕ, Bool, ◌==◌, ◌||◌, ◌&&◌, nat_le, List, Vec, Result, Ok, Err}
 use Rattle.zone_proto.specs.Names.{Name, lower, is_at_or_above}
-use Rattle.zone_proto.specs.Types.{NSEC, NSEC3, NSEC3PARAM, RRSIG}
 use Rattle.zone_proto.specs.declared.rdata.RData.{RData}
 use Rattle.zone_proto.specs.declared.record.Record.{Record}
 use Rattle.zone_update.specs.declared.entry.Content.{Content}
@@ -55,10 +54,6 @@ is_in_zone origin n = is_at_or_above origin (lower n)
 -- types of which no zone has records: those of queries, and those that go along with a message (RFC 6895 section 3.1)
 abbrev pub is_meta : ℕ → Bool
 is_meta t = t == 0 || (t == 41 || (nat_le 128 t && nat_le t 255))
-
--- types whose sets follow from the others of the zone: denials, their parameters, and signatures
-abbrev pub is_derived : ℕ → Bool
-is_derived t = t == NSEC || (t == NSEC3 || (t == NSEC3PARAM || t == RRSIG))
 
 -- where there are to be no data
 abbrev pub if_empty : {A : Type 0} → Content → A → Result A Refusal

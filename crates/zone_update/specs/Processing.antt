@@ -4,13 +4,12 @@ use Rattle.std.specs.Ordering.{eq_by_cmp}
 use Rattle.zone_proto.specs.Data.{same_data, type_of}
 use Rattle.zone_proto.specs.Names.{Name, lower, name_cmp}
 use Rattle.zone_proto.specs.Sets.{RRset, empty_set, first_serial, inserted, is_single, soa_serial, stores}
-use Rattle.zone_proto.specs.Types.{NS, SOA}
+use Rattle.zone_proto.specs.Types.{NS, SOA, is_derived}
 use Rattle.zone_proto.specs.declared.rdata.RData.{RData}
 use Rattle.zone_proto.specs.declared.record.Record.{Record}
 use Rattle.zone_proto.specs.declared.rr_key.RrKey.{RrKey}
 use Rattle.zone_map.specs.Zones.{Sets, set_at, owns, put, types_at, without}
 use Rattle.zone_map.specs.Upserts.{clashes}
-use Rattle.zone_update.specs.Entries.{is_derived}
 use Rattle.zone_update.specs.declared.change.Change.{Change}
 use Rattle.zone_update.specs.declared.change.Change.TheVariants.{Add, DeleteSet, DeleteName, DeleteRecord}
 

@@ -1,9 +1,9 @@
 use Rattle.std.proofs.Common.{◌≡◌, ◌++◌, List, drop, sym, ap, ◌∙◌}
 use Rattle.zone_proto.specs.declared.record.Record.{Record}
-use Rattle.message_writing.specs.Responses.{records_of}
+use Rattle.message_writing.specs.Responses.{records_of, records_together}
 use Rattle.transfer_messages.specs.declared.place.Place.{Place}
 use Rattle.transfer_messages.specs.Transfers.{left_at, sets_records}
-use Rattle.zone_server.specs.Transfers.{records_together, soa_alone}
+use Rattle.zone_server.specs.Transfers.{soa_alone}
 use Rattle.transfer_messages.proofs.Lists.{dropped_over, if_ok}
 use Rattle.transfer_messages.proofs.advancing.advance.Goals as goal
 

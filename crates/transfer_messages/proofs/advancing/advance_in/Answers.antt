@@ -1,9 +1,9 @@
 use Rattle.std.proofs.Common.{◌++◌, drop, sym, ap, subst, ◌∙◌}
 use Rattle.std.specs.Prelude.{option_copied}
 use Rattle.zone_map.specs.Zones.{Sets}
-use Rattle.message_writing.specs.Responses.{records_of}
+use Rattle.message_writing.specs.Responses.{records_of, records_together}
 use Rattle.transfer_messages.specs.Transfers.{ahead_of, sets_records}
-use Rattle.zone_server.specs.Transfers.{records_together, soa_alone}
+use Rattle.zone_server.specs.Transfers.{soa_alone}
 use Rattle.transfer_messages.proofs.Tails.{IsTailOf, ahead_is_tail, place_behind, place_here, tail_behind}
 use Rattle.transfer_messages.proofs.advancing.advance_in.Goals as goal
 

@@ -1,7 +1,8 @@
 use Rattle.std.proofs.Common.{◌≡◌, ◌++◌, drop}
 use Rattle.std.specs.Prelude.{option_copied}
 use Rattle.transfer_messages.specs.Transfers.{ahead_of, sets_records}
-use Rattle.zone_server.specs.Transfers.{records_together, soa_alone}
+use Rattle.message_writing.specs.Responses.{records_together}
+use Rattle.zone_server.specs.Transfers.{soa_alone}
 use Rattle.transfer_messages.proofs.Tails.{IsTailOf}
 use Rattle.transfer_messages.proofs.advancing.advance_in.Given as goal
 

@@ -1,6 +1,6 @@
 use Rattle.std.proofs.Common.{◌≡◌, ◌+◌, ap, length, arith}
-use Rattle.message_writing.specs.Responses.{records_of}
-use Rattle.zone_server.specs.Transfers.{records_together, soa_alone}
+use Rattle.message_writing.specs.Responses.{records_of, records_together}
+use Rattle.zone_server.specs.Transfers.{soa_alone}
 use Rattle.transfer_messages.proofs.Lists.{both_over}
 use Rattle.transfer_messages.proofs.advancing.advance_last.Goals as goal
 

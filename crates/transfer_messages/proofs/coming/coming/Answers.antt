@@ -1,8 +1,8 @@
 use Rattle.std.proofs.Common.{◌++◌, drop, sym, ap, ◌∙◌}
 use Rattle.zone_map.specs.Zones.{Sets}
-use Rattle.message_writing.specs.Responses.{records_of}
+use Rattle.message_writing.specs.Responses.{records_of, records_together}
 use Rattle.transfer_messages.specs.Transfers.{left_at, sets_records, zone_records}
-use Rattle.zone_server.specs.Transfers.{records_together, soa_alone}
+use Rattle.zone_server.specs.Transfers.{soa_alone}
 use Rattle.transfer_messages.proofs.Gathered.{gathered_opening, in_place}
 use Rattle.transfer_messages.proofs.coming.coming.Goals as goal
 use Rattle.transfer_messages.proofs.coming.coming.Goals.{in-Opening+in_ok-skip-in-Opening+in_ok-push_sets-in-Opening, in-Set+in_ok-push_sets-in-Set, in-Closing+in_ok-push_group-in-Closing}

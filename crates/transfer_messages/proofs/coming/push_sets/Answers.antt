@@ -1,9 +1,9 @@
 use Rattle.std.proofs.Common.{◌≤◌, [], ◌++◌, length, drop, sym, subst, arith}
 use Rattle.zone_map.specs.Zones.{Sets}
-use Rattle.message_writing.specs.Responses.{records_of}
+use Rattle.message_writing.specs.Responses.{records_of, records_together}
 use Rattle.transfer_messages.specs.Gathering.{Gathers}
 use Rattle.transfer_messages.specs.Transfers.{sets_records}
-use Rattle.zone_server.specs.Transfers.{records_together, soa_alone}
+use Rattle.zone_server.specs.Transfers.{soa_alone}
 use Rattle.transfer_messages.proofs.Gathered.{gathered_full, none_gathered, set_gathered, soa_gathered}
 use Rattle.transfer_messages.proofs.coming.push_sets.Goals as goal
 

@@ -1,7 +1,8 @@
 use Rattle.std.proofs.Common.{◌++◌, drop}
 use Rattle.transfer_messages.specs.Gathering.{Gathers}
 use Rattle.transfer_messages.specs.Transfers.{sets_records}
-use Rattle.zone_server.specs.Transfers.{records_together, soa_alone}
+use Rattle.message_writing.specs.Responses.{records_together}
+use Rattle.zone_server.specs.Transfers.{soa_alone}
 use Rattle.transfer_messages.proofs.coming.push_sets.Given as goal
 
 -- the records of the sets that were gone over were gathered

@@ -1,7 +1,7 @@
 use Rattle.std.proofs.Common.{◌≡◌, map, refl, sym, arith, rules}
 use Rattle.message_writing.specs.Responses.{all_records, records_of}
 use Rattle.zone_server.specs.Transfers.{joined, one_by_one}
-use Rattle.zone_server.proofs.TransferFacts.{joined_groups, joined_one_by_one}
+use Rattle.zone_server.proofs.TransferFacts.{joined_groups, joined_one_by_one, stopped_at_once}
 use Rattle.zone_server.proofs.TransferRuns.{halts_of, pieces_halt, pieces_more, single_halts, some_left}
 use Rattle.zone_server.proofs.transfer_writer.send_one_by_one.Goals as goal
 
@@ -38,3 +38,8 @@ loop-left-preserved g c =
     c.args.answers.now.items c.loop-left.answers.items c.send_message.new.answers.items (g.W.Write.contents c.args.output.now)
     (g.W.Write.contents c.loop-left.output) (g.W.Write.contents c.send_message.new.output) c.loop-left.invariant c.in_ok-count.ensures.sent
     c.behind-left.ensures.value
+
+pub returns-in_err-singles-clause-halted : goal.returns-in_err-singles-clause-halted
+returns-in_err-singles-clause-halted g c =
+    let reported = stopped_at_once c.args.query.now (records_of c.args.group.now) c.args.answers.now.items (g.W.Write.contents c.args.output.now) in
+    search (rules, reported)

@@ -3,8 +3,8 @@ use Rattle.std.specs.Map.{values_of}
 use Rattle.zone_proto.specs.declared.record.Record.{Record}
 use Rattle.zone_proto.specs.Sets.{RRset}
 use Rattle.message_writing.specs.declared.response.Group.{Group}
-use Rattle.message_writing.specs.Responses.{records_of}
-use Rattle.zone_server.specs.Transfers.{between, groups_sent, records_together, soa_alone}
+use Rattle.message_writing.specs.Responses.{records_of, records_together}
+use Rattle.zone_server.specs.Transfers.{between, groups_sent, soa_alone}
 use Rattle.zone_server.specs.TransferSteps.{HasSentFirst}
 use Rattle.zone_server.proofs.TransferRuns.{no_sets_yet, set_added, set_halts, sets_end, sets_end_halt}
 use Rattle.zone_server.proofs.transfer_writer.send_sets.Goals as goal

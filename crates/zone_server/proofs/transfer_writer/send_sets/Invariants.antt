@@ -1,6 +1,6 @@
 use Rattle.std.proofs.Common.{[], ◌∷◌, ◌++◌, map}
-use Rattle.message_writing.specs.Responses.{records_of}
-use Rattle.zone_server.specs.Transfers.{between, groups_sent, records_together, soa_alone}
+use Rattle.message_writing.specs.Responses.{records_of, records_together}
+use Rattle.zone_server.specs.Transfers.{between, groups_sent, soa_alone}
 use Rattle.zone_server.specs.TransferSteps.{HasSentFirst}
 use Rattle.zone_server.proofs.transfer_writer.send_sets.Given as goal
 
