@@ -51,6 +51,15 @@ def name_at(message, at):
             raise Malformed("the form of a label isn't known")
 
 
+def behind_name(message, at):
+    """The place behind a name, whose pointer isn't followed: a record is passed over by its length."""
+    while at < len(message) and 0 < message[at] < 64:
+        at += 1 + message[at]
+    if at >= len(message) or 64 <= message[at] < 192:
+        raise Malformed("a name isn't whole")
+    return at + (2 if message[at] else 1)
+
+
 def parted(message):
     """Where each record begins, with its type, class, TTL, data and section (0 to 2), up to the end of the message."""
     if len(message) < 12:
@@ -58,10 +67,10 @@ def parted(message):
     questions, *counts = struct.unpack_from("!4H", message, 4)
     at, records = 12, []
     for _ in range(questions):
-        at = name_at(message, at)[1] + 4
+        at = behind_name(message, at) + 4
     for section, count in enumerate(counts):
         for _ in range(count):
-            start, at = at, name_at(message, at)[1]
+            start, at = at, behind_name(message, at)
             if at + 10 > len(message):
                 raise Malformed("a record isn't whole")
             kind, family, ttl, length = struct.unpack_from("!HHIH", message, at)
