@@ -1,10 +1,13 @@
 -- The newest of some steps
-use Rattle.std.proofs.Common.{◌≡◌, ℕ, suc, ◌+◌, ◌<◌, ◌≤◌, Bool, true, false, List, [], ◌∷◌, ◌++◌, length, get_or, take, drop, refl, sym, ap, ◌∙◌, arith, length-append}
+use Rattle.std.proofs.Common.{◌≡◌, ℕ, suc, ◌+◌, ◌-◌, ◌<◌, ◌≤◌, Bool, true, false, List, [], ◌∷◌, ◌++◌, length, get_or, take, drop, refl, sym, ap, ◌∙◌, arith, length-append}
 use Rattle.std.specs.Prelude.{nat_le, if◌then◌else◌}
 use Rattle.std.specs.List.{flat_map}
 use Rattle.std.proofs.lemmas.Bool.{le-leb, lt-leb}
+use Rattle.std.proofs.lemmas.List.{length-drop}
+use Rattle.std.proofs.Math.Seq.{take-append_seam}
 use Rattle.shown_zones.specs.declared.step.ZoneStep.{ZoneStep}
 use Rattle.kept_steps.specs.Kept.{newest_within, records_of, size_of}
+use Rattle.kept_steps.proofs.Rooms.{drop_at}
 
 pub size_first : (s : ZoneStep) (ss : List ZoneStep) → size_of (s ∷ ss) ≡ length (records_of s) + size_of ss
 size_first s ss = length-append (records_of s) (flat_map records_of ss)
@@ -34,6 +37,15 @@ pub goes_on : (most : ℕ) (s : ZoneStep) (ss : List ZoneStep) → most < size_o
 unfolding newest_within
 goes_on most s ss lt = ap (λ (b : Bool). if b then s ∷ ss else newest_within most ss) (lt-leb (size_of (s ∷ ss)) most lt)
 
+-- what is left from a place on has too many, so that its first step goes
+pub one_goes : (most left : ℕ) (ss : List ZoneStep) (i : ℕ) (s : ZoneStep) → i < length ss → s ≡ get_or ss i s → left ≡ size_of (drop i ss) → most < left
+    → (left ≡ length (records_of s) + size_of (drop (i + 1) ss)) × (newest_within most (drop i ss) ≡ newest_within most (drop (i + 1) ss))
+one_goes most left ss i s lt is counted many =
+    let at : drop i ss ≡ s ∷ drop (i + 1) ss = drop_at ss i s lt is in
+    let first : size_of (s ∷ drop (i + 1) ss) ≡ length (records_of s) + size_of (drop (i + 1) ss) = size_first s (drop (i + 1) ss) in
+    let all : left ≡ length (records_of s) + size_of (drop (i + 1) ss) = counted ∙ ap size_of at ∙ first in
+    (all, ap (newest_within most) at ∙ goes_on most s (drop (i + 1) ss) (omega (arith, first, all, many)))
+
 -- or they haven't
 pub all_stay : (most : ℕ) (ss : List ZoneStep) → size_of ss ≤ most → newest_within most ss ≡ ss
 unfolding newest_within
@@ -51,15 +63,7 @@ none_stays most (t ∷ ss) s lt =
     let f : size_of (ss ++ s ∷ []) ≡ size_of ss + length (records_of s) = size_last ss s in
     goes_on most t (ss ++ s ∷ []) (omega (arith, e, f, lt)) ∙ none_stays most ss s lt
 
--- the first of some steps is taken away
-pub front_gone : (xs ys : List ZoneStep) (x : ZoneStep) → 0 < length xs → x ≡ get_or xs 0 x → ys ≡ take 0 xs ++ drop (suc 0) xs → xs ≡ x ∷ ys
-front_gone [] ys x lt is h = absurd (omega (arith, lt))
-front_gone (z ∷ zs) ys x lt is h =
-    let e : x ≡ z = is in
-    let f : ys ≡ zs = h in
-    ap (λ (y : ZoneStep). y ∷ zs) (sym e) ∙ ap (λ (r : List ZoneStep). x ∷ r) (sym f)
-
--- steps that have records are there
-pub some_there : (ss : List ZoneStep) → 0 < size_of ss → 0 < length ss
-some_there [] h = absurd (omega (arith, h))
-some_there (s ∷ ss) h = omega arith
+-- the others, behind those that go
+pub left_of_turned : {X : Type 0} → (xs : List X) (count : ℕ) → take (length xs - count) (drop count xs ++ take count xs) ≡ drop count xs
+left_of_turned xs count =
+    ap (λ n. take n (drop count xs ++ take count xs)) (sym (length-drop count xs)) ∙ take-append_seam (drop count xs) (take count xs)

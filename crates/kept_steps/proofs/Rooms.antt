@@ -25,9 +25,13 @@ step_count s =
     let new : count_of (s.new_soa ∷ s.added) ≡ length (sent s.new_soa) + count_of s.added = count_first s.new_soa s.added in
     omega (arith, all, both, new)
 
+-- what is left from a place on begins with what is there
+pub drop_at : {X : Type 0} → (xs : List X) (i : ℕ) (x : X) → i < length xs → x ≡ get_or xs i x → drop i xs ≡ x ∷ drop (i + 1) xs
+drop_at xs i x lt is = drop_more xs i x lt ∙ ap (λ y. y ∷ drop (i + 1) xs) (sym is)
+
 -- the set at a place, between those before it and those behind it
 split_at : (sets : List RRset) (i : ℕ) (s : RRset) → i < length sets → s ≡ get_or sets i s → sets ≡ take i sets ++ s ∷ drop (i + 1) sets
-split_at sets i s lt is = sym (take-append-drop i sets) ∙ ap (λ xs. take i sets ++ xs) (drop_more sets i s lt ∙ ap (λ (x : RRset). x ∷ drop (i + 1) sets) (sym is))
+split_at sets i s lt is = sym (take-append-drop i sets) ∙ ap (λ xs. take i sets ++ xs) (drop_at sets i s lt is)
 
 pub count_to : (sets : List RRset) (i : ℕ) (s : RRset) → i < length sets → s ≡ get_or sets i s
     → count_of sets ≡ count_of (take i sets) + (length (sent s) + count_of (drop (i + 1) sets))

@@ -1,5 +1,5 @@
 //! How many records steps have.
-ghost use Rattle.std.specs.Prelude.{◌≡◌, ◌≤◌, length};
+ghost use Rattle.std.specs.Prelude.{◌≡◌, ◌≤◌, drop, length};
 ghost use Rattle.std.specs.List.{flat_map};
 ghost use Rattle.shown_zones.specs.Sending.{sent};
 ghost use Rattle.kept_steps.specs.Kept.{newest_within, records_of, size_of, IsLeft};
@@ -49,22 +49,40 @@ fn behind_set(set: &RecordSet, room: usize) -> Option<usize>
     Some(left - signatures)
 }
 
-/// Drops the first of some steps, which have so many records, until the others have so many at most; and gives how many they have.
+/// How many of the first of some steps, which have so many records, have to go until the others have so many at most; and how many these have.
 #[tactic(auto, unfolding(crate::specs::Kept::newest_within))]
+fn too_many(steps: &[ZoneStep], records: usize, most: usize) -> (usize, usize)
+    requires { records ≡ size_of steps.now }
+    ensures kept { drop result.0 steps.now ≡ newest_within most steps.now }
+    ensures some { result.0 ≤ length steps.now }
+    ensures counted { result.1 ≡ size_of (newest_within most steps.now) }
+    ensures within { result.1 ≤ most }
+{
+    let mut left = records;
+    for (place, step) in steps.iter().enumerate() {
+        if left <= most {
+            return (place, left);
+        }
+        match room_behind(step, left) {
+            Some(rest) => left = rest,
+            // It has no more than all.
+            None => unreachable!(),
+        }
+    }
+    (steps.len(), left)
+}
+
+/// Drops the first of some steps, which have so many records, until the others have so many at most; and gives how many they have. Each of the others
+/// is moved once, however many go.
+#[tactic(auto, using(crate::proofs::Newest::left_of_turned))]
 pub(crate) fn drop_oldest(steps: &mut Vec<ZoneStep>, records: usize, most: usize) -> usize
     requires { records ≡ size_of steps.old.items }
     ensures kept { steps.new.items ≡ newest_within most steps.old.items }
     ensures counted { result ≡ size_of steps.new.items }
     ensures within { result ≤ most }
 {
-    let mut left = records;
-    'oldest: while most < left {
-        let first = steps.remove(0);
-        match room_behind(&first, left) {
-            Some(rest) => left = rest,
-            // It has no more than all.
-            None => unreachable!(),
-        }
-    }
+    let (count, left) = too_many(steps.as_slice(), records, most);
+    steps.rotate_left(count);
+    steps.truncate(steps.len() - count);
     left
 }

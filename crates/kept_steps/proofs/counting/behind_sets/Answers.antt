@@ -1,6 +1,5 @@
-use Rattle.std.proofs.Common.{◌≡◌, ◌+◌, length, take, arith}
-use Rattle.shown_zones.specs.Sending.{sent}
-use Rattle.kept_steps.proofs.Rooms.{count_more, count_of, count_to}
+use Rattle.std.proofs.Common.{arith}
+use Rattle.kept_steps.proofs.Rooms.{count_more, count_to}
 use Rattle.kept_steps.proofs.counting.behind_sets.Goals as goal
 
 pub loop-set-preserved : goal.loop-set-preserved
