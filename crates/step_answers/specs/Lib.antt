@@ -1,0 +1,4 @@
+pub mod Noting
+pub mod Answers
+pub mod NotedLaws
+pub mod Arrivals

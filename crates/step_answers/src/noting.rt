@@ -1,0 +1,78 @@
+//! New versions of a zone.
+ghost use Rattle.std.specs.Prelude.{◌≡◌, OnErr, OnOk};
+ghost use Rattle.zone_proto.specs.Sets.{first_serial, soa_serial};
+ghost use Rattle.step_answers.specs.Noting.{is_to_newer, kept_behind, IsNoted};
+
+use kept_steps::KeptSteps;
+use shown_zones::{ZoneStep, step_between};
+use std::alloc::{AllocError, Global};
+use zone_map::RecordMap;
+use zone_proto::{LowerName, RData, RecordSet};
+use zone_secondary::is_newer;
+
+/// Puts the step from one version of a zone to the next one behind the steps that are kept, which lead to the first. Where the second isn't
+/// newer by the serial of its SOA (RFC 1982), or one of the two has no SOA, all are forgotten: no step leads to it. The step takes one pass
+/// over either version, and a copy of what changed. Fails only for lack of memory, and then the steps are as they were.
+#[tactic(auto, using(crate::proofs::NotedLead::noted_so))]
+pub fn note_version(
+    alloc: Global,
+    origin: &LowerName,
+    before: &RecordMap,
+    after: &RecordMap,
+    kept: &mut KeptSteps,
+) -> Result<(), AllocError>
+    ensures noted { OnOk result (IsNoted origin.now before.now after.now kept.old kept.new) }
+    ensures same { OnErr result (kept.new ≡ kept.old) }
+{
+    match step_between(alloc, origin, before, after) {
+        Ok(step) => put_step(kept, step),
+        Err(_) => Err(AllocError),
+    }
+}
+
+/// Puts a step behind those that are kept if it is to a newer version; forgets all else.
+fn put_step(kept: &mut KeptSteps, step: Option<ZoneStep>) -> Result<(), AllocError>
+    ensures put { OnOk result (kept.new ≡ kept_behind step kept.old) }
+    ensures same { OnErr result (kept.new ≡ kept.old) }
+{
+    let Some(step) = step else {
+        kept.forget();
+        return Ok(());
+    };
+    if is_to_newer(&step) {
+        kept.push(step)
+    } else {
+        kept.forget();
+        Ok(())
+    }
+}
+
+/// Whether a step leads to a newer version, by the serials of the two SOAs.
+fn is_to_newer(step: &ZoneStep) -> bool
+    ensures { result ≡ is_to_newer step.now }
+{
+    match (serial_of(&step.new_soa), serial_of(&step.old_soa)) {
+        (Some(new), Some(old)) => is_newer(new, old),
+        _ => false,
+    }
+}
+
+/// The serial of the first record of an SOA.
+fn serial_of(soa: &RecordSet) -> Option<u32>
+    ensures { result ≡ first_serial soa.now.records }
+{
+    match soa.as_slice().first() {
+        Some(first) => serial_in(&first.rdata),
+        None => None,
+    }
+}
+
+/// The serial of the data of an SOA.
+fn serial_in(rdata: &RData) -> Option<u32>
+    ensures { result ≡ soa_serial rdata.now }
+{
+    match rdata {
+        RData::SOA(soa) => Some(soa.serial),
+        _ => None,
+    }
+}
