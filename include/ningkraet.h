@@ -193,6 +193,11 @@ uint32_t nk_zones_add(nk_zones *zones, const uint8_t *origin, size_t origin_leng
 /* Removes the zone with this origin. NK_DONE, NK_NO_ZONE, NK_BAD_NAME, NK_NO_MEMORY or NK_CLOSED. */
 uint32_t nk_zones_drop(nk_zones *zones, const uint8_t *origin, size_t origin_length);
 
+/* Has the zone with this origin expire, as a secondary has to that couldn't ask the primary for the zone's expire interval (RFC 1034 section
+ * 4.3.5): a zone without any record comes in its place, which is freed. Queries for its names get SERVFAIL, and so do transfers to those who may
+ * have it; its serial is 0. nk_zones_load brings it back. NK_DONE, NK_NO_ZONE, NK_BAD_NAME, NK_NO_MEMORY or NK_CLOSED. */
+uint32_t nk_zones_expire(nk_zones *zones, const uint8_t *origin, size_t origin_length);
+
 /* Keeps the answers that the zone with this origin gives most as the octets that go out: those for A and AAAA of each name that has an address
  * or an alias, and those for each set of the types NS, SOA, MX, SRV, TXT and DNSKEY, to a query without EDNS and to one that takes DNSSEC
  * records (DO); none that is truncated. Such a query is answered in less time, if the letters of its name are lower case. No answer changes,

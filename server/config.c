@@ -12,6 +12,7 @@
 #include <unistd.h>
 
 enum { WORDS = 4, LINE = 4096 };
+#define BLANKS " \t\r\n"
 
 static const char *file_path;      /* what is read, and which line of it: the place of a fault */
 static unsigned line_number;
@@ -22,15 +23,11 @@ static unsigned line_number;
  * there are, WORDS + 1 where there are more than WORDS, or -1 where a quote isn't closed. */
 static int cut(char *line, char *words[WORDS]) {
     int count = 0;
-    for (char *at = line; *at && *at != '#';) {
-        if (strchr(" \t\r\n", *at)) {
-            at++;
-            continue;
-        }
+    for (char *at = line + strspn(line, BLANKS); *at && *at != '#'; at += strspn(at, BLANKS)) {
         if (count == WORDS) return WORDS + 1;
         int is_quoted = *at == '"';
         words[count++] = at += is_quoted;
-        at += strcspn(at, is_quoted ? "\"" : " \t\r\n#");
+        at += strcspn(at, is_quoted ? "\"" : BLANKS "#");
         if (is_quoted && *at != '"') return -1;
         int is_comment = *at == '#';
         if (*at) *at++ = 0;

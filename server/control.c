@@ -32,13 +32,11 @@ int control_listen(const char *path) {
 /* Reads the line of a command. Returns whether it came whole. */
 static int read_line(int fd, char *line) {
     size_t have = 0;
-    for (ssize_t more; have < COMMAND - 1 && (more = read(fd, line + have, COMMAND - 1 - have)) > 0; have += more) {
-        char *end = memchr(line + have, '\n', more);
-        if (!end) continue;
-        *end = 0;
-        return 1;
-    }
-    return 0;
+    char *end = NULL;
+    for (ssize_t more; !end && have < COMMAND - 1 && (more = read(fd, line + have, COMMAND - 1 - have)) > 0; have += more)
+        end = memchr(line + have, '\n', more);
+    if (end) *end = 0;
+    return end != NULL;
 }
 
 static void write_all(int fd, const char *text, size_t length) {
@@ -50,7 +48,7 @@ static size_t reply_to(char *line, char *reply, struct worker *workers, size_t w
     char *rest = line, *name = strsep(&rest, " "), *first = rest ? strsep(&rest, " ") : NULL, *second = rest;
     struct counters *counters[worker_count];
     for (size_t i = 0; i < worker_count; i++) counters[i] = &workers[i].counters;
-    const char *why = NULL;
+    const char *why = "the commands are: status, metrics, zones, reload, add ORIGIN FILE, drop ORIGIN, stop";
     size_t length = sprintf(reply, "ok\n");
     if (!strcmp(name, "status") && !first) {
         length += sprintf(reply + length, "%12zu zones\n%12zu workers\n", zones_count(), worker_count);
@@ -67,11 +65,8 @@ static size_t reply_to(char *line, char *reply, struct worker *workers, size_t w
     if (!strcmp(name, "add") && second) {
         why = zones_add(first, second);
         if (!why && zones_renew(0)) why = "its file is bad, or another's: ningkraetctl zones has the faults";
-    } else if (!strcmp(name, "drop") && first && !second) {
-        why = zones_drop(first);
-    } else {
-        why = "the commands are: status, metrics, zones, reload, add ORIGIN FILE, drop ORIGIN, stop";
     }
+    if (!strcmp(name, "drop") && first && !second) why = zones_drop(first);
     return why ? (size_t)sprintf(reply, "error\n%s\n", why) : length;
 }
 

@@ -94,17 +94,12 @@ void tcp_accept(struct worker *worker, struct source *listener) {
         if (is_short) turn_away(worker, listener);
         if (fd < 0) return;
         atomic_uint *tally = limits_enter((struct sockaddr *)&client);
-        if (!tally) {
-            count(&worker->counters.tcp_refused, 1);
+        struct connection *c = tally ? calloc(1, sizeof *c) : NULL;
+        if (!c) {
+            count(tally ? &worker->counters.no_memory : &worker->counters.tcp_refused, 1);
+            if (tally) limits_leave(tally);
             close(fd);
             continue;
-        }
-        struct connection *c = calloc(1, sizeof *c);
-        if (!c) {
-            count(&worker->counters.no_memory, 1);
-            limits_leave(tally);
-            close(fd);
-            return;
         }
         *c = (struct connection){.source = {SOURCE_CONNECTION, fd}, .client = client, .tally = tally, .moved = microseconds(), .events = EPOLLIN};
         enter(c, &worker->silent);

@@ -79,12 +79,9 @@ static size_t answer(struct worker *worker, struct udp *udp, int at, uint8_t *re
     nk_transfer none = NK_TRANSFER_NONE;   /* none begins by UDP */
     if (answer_message(worker, &none, client, NK_UDP, now, query, length, response, sizeof udp->responses[0], &written, &summary) != NK_DONE) return 0;
     enum verdict verdict = limits_take(client, &summary, query, length);
-    if (verdict == WITHHOLD) {
-        count(&worker->counters.limited, 1);
-        return 0;
-    }
-    if (verdict == CUT) {
-        count(&worker->counters.slipped, 1);
+    if (verdict != SEND) {
+        count(verdict == CUT ? &worker->counters.slipped : &worker->counters.limited, 1);
+        if (verdict == WITHHOLD) return 0;
         written = cut(response, query, length);
         summary.truncated = 1;
     }
@@ -102,8 +99,7 @@ void udp_answer(struct worker *worker, struct udp *all, size_t which) {
     if (udp->at >= udp->count) read_datagrams(udp);
     for (uint64_t until = microseconds() + SHARE; udp->at < udp->count;) {
         struct msghdr *client = &udp->read[udp->at].msg_hdr;
-        size_t written = answer(worker, udp, udp->at, udp->responses[answers], now);
-        udp->at++;
+        size_t written = answer(worker, udp, udp->at++, udp->responses[answers], now);
         if (written) {
             keep_address(client);
             to_send[answers] = (struct iovec){udp->responses[answers], written};

@@ -26,7 +26,7 @@ struct zone {
     struct file file, *included;      /* its file, and those that are read with it ($INCLUDE) */
     size_t included_count;
     uint32_t serial;
-    unsigned is_served : 1, is_of_folder : 1, is_there : 1;
+    unsigned is_served : 1, is_of_folder : 1, is_there : 1, is_expired : 1;
 };
 
 static const struct config *config;
@@ -183,9 +183,27 @@ static int is_changed(const struct file *file) {
     return old->st_mtim.tv_sec != now.st_mtim.tv_sec || old->st_mtim.tv_nsec != now.st_mtim.tv_nsec || old->st_size != now.st_size || old->st_ino != now.st_ino;
 }
 
-/* Whether a file of a zone has changed since it was read, or its own couldn't be. */
+/* Whether FILE.expired is beside the file of a zone: a secondary has it there while the zone has expired (RFC 1034 section 4.3.5). */
+static int is_marked(const struct zone *zone) {
+    char path[4096];
+    struct stat mark;
+    snprintf(path, sizeof path, "%s.expired", zone->file.path);
+    return !stat(path, &mark);
+}
+
+/* Loads a zone, and has it expire where its file is marked so. Tells whether what is served changes. */
+static int load_or_expire(nk_zones *into, struct zone *zone) {
+    int is_new = load(into, zone);
+    uint32_t code = is_marked(zone) ? nk_zones_expire(into, (uint8_t *)zone->origin, strlen(zone->origin)) : (uint32_t)NK_NO_ZONE;
+    if (is_new || code == NK_DONE) zone->is_expired = code == NK_DONE;
+    if (code == NK_DONE) log_line("%s has expired: it is answered with SERVFAIL", zone->origin);
+    if (code == NK_NO_MEMORY) set_fault(zone, "out of memory");   /* it is tried again, since the mark tells otherwise */
+    return is_new || code == NK_DONE;
+}
+
+/* Whether a file of a zone has changed since it was read, or its own couldn't be, or the zone has expired since or no longer. */
 static int has_changed(const struct zone *zone) {
-    int changed = is_changed(&zone->file) || !zone->file.read.st_ino;
+    int changed = is_changed(&zone->file) || !zone->file.read.st_ino || is_marked(zone) != zone->is_expired;
     for (size_t i = 0; i < zone->included_count; i++) changed |= is_changed(&zone->included[i]);
     return changed;
 }
@@ -231,7 +249,7 @@ size_t zones_renew(int all) {
             continue;
         }
         zones[kept++] = zone;
-        if (has_changed(zone) || all) changes += load(&fresh, zone);
+        if (has_changed(zone) || all) changes += load_or_expire(&fresh, zone);
         faults += zone->fault != NULL;
     }
     if (code != NK_DONE) {
@@ -289,8 +307,8 @@ size_t zones_print(char *text, size_t size) {
     for (size_t i = 0; i < zone_count; i++) {
         struct zone *zone = zones[i];
         char serial[16] = "-";
-        if (zone->is_served) snprintf(serial, sizeof serial, "%u", zone->serial);
-        int more = snprintf(text + length, size - length, "%s %s %s%s%s\n", zone->origin, serial, zone->file.path, zone->fault ? " FAULT " : "", zone->fault ? zone->fault : "");
+        if (zone->is_served && !zone->is_expired) snprintf(serial, sizeof serial, "%u", zone->serial);
+        int more = snprintf(text + length, size - length, "%s %s %s%s%s%s\n", zone->origin, serial, zone->file.path, zone->is_expired ? " EXPIRED" : "", zone->fault ? " FAULT " : "", zone->fault ? zone->fault : "");
         if (more < 0 || (size_t)more >= size - length) break;
         length += more;
     }

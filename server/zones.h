@@ -11,15 +11,15 @@
 int zones_begin(const struct config *config, void (*watch)(const char *folder));
 
 /* Reads each zone of which a file is new or has changed since it was read, and all of them where `all` is set; takes in zones that came into a folder,
- * and lets go those that left it. A file that is bad leaves its old zone as it is. What is served changes in one step, at the end. Returns
- * how many zones have a file that is bad. */
+ * and lets go those that left it. A file that is bad leaves its old zone as it is; a zone beside whose file FILE.expired is expires. What is
+ * served changes in one step, at the end. Returns how many zones have a file that is bad. */
 size_t zones_renew(int all);
 
 /* Adds a zone, or drops one, until the next start. Returns NULL, or what was wrong. */
 const char *zones_add(const char *origin, const char *path);
 const char *zones_drop(const char *origin);
 
-/* Writes a line for each zone, as many as there is room for: its origin, serial and file, and what is wrong with the file. */
+/* Writes a line for each zone, as many as there is room for: its origin, serial and file, whether it has expired, and what is wrong with the file. */
 size_t zones_print(char *text, size_t size);
 
 size_t zones_count(void);

@@ -4,10 +4,11 @@
 PROGRAM is secondaryd, which says what to ask and when, and checks what comes; here are the sockets, the clock and the files. PRIMARY is the
 address of the primary server. Questions go out over TCP. A new version of the zone is written beside FILE, which it then replaces, and COMMAND
 is run, for example `ningkraetctl reload`; FILE.confirmed has the moment at which the zone was the primary's for the last time. When the zone
-expires, FILE is removed, and COMMAND is run too. With --notify, NOTIFY messages are taken on that port, by UDP and TCP, from the primary's address
-alone.
+expires, FILE.expired comes beside FILE, by which ningkraetd answers SERVFAIL for it, and COMMAND is run too; it goes once there is the next copy.
+With --notify, NOTIFY messages are taken on that port, by UDP and TCP, from the primary's address alone.
 """
 import argparse
+import contextlib
 import os
 import secrets
 import select
@@ -48,16 +49,16 @@ class Program:
 
 
 class Copy:
-    """The file that is a copy of the zone."""
+    """The file that is a copy of the zone, and the one beside it that says that the zone has expired."""
 
     def __init__(self, path, command):
-        self.path, self.command = path, command
+        self.path, self.expired, self.command = path, f"{path}.expired", command
 
     def confirmed(self):
-        """The moment at which the zone was the primary's for the last time; none where there is no copy."""
+        """The moment at which the zone was the primary's for the last time; none where there is no copy, or it has expired."""
         try:
             with open(f"{self.path}.confirmed", encoding="ascii") as file:
-                return int(file.read()) if os.path.exists(self.path) else None
+                return int(file.read()) if os.path.exists(self.path) and not os.path.exists(self.expired) else None
         except (OSError, ValueError):
             return None
 
@@ -74,12 +75,13 @@ class Copy:
     def take(self, text, moment):
         self.put(self.path, text)
         self.confirm(moment)
+        with contextlib.suppress(FileNotFoundError):
+            os.remove(self.expired)
         self.run()
 
     def expire(self):
-        if os.path.exists(self.path):
-            os.remove(self.path)
-            self.run()
+        self.put(self.expired, b"")
+        self.run()
 
     def run(self):
         if self.command:

@@ -242,6 +242,34 @@ def until(holds, what):
         time.sleep(0.05)
 
 
+def zones_expire(room):
+    with Server(room, "transfer example.com", zones=("example.com", "example.org")) as server, server.udp() as stream, server.tcp() as by_tcp:
+        path = f"{server.folder}/zones/example.com.zone"
+
+        def fails():
+            return "SERVFAIL" in ask(stream, "www.example.com.", "A")[0]
+
+        with open(f"{path}.expired", "w", encoding="ascii"):
+            pass
+        until(fails, "a zone that has expired fails")
+        need(f"example.com - {path} EXPIRED\n" in server.control("zones")[1], server.control("zones")[1])
+        need("SERVFAIL" in ask(by_tcp, "example.com.", "AXFR")[0], "a zone that has expired isn't sent")
+        need(address(stream, "www.example.org.") == ["192.0.2.80"], "another zone is answered")
+        server.write("example.com", 2, last=2)
+        need(server.control("reload")[0] == 0 and fails(), "a new file doesn't bring it back while the mark is there")
+        server.write("example.com", 3, more="@ garbage\n")
+        os.remove(f"{path}.expired")
+        need(server.control("reload")[0] == 1 and fails() and " - " in server.control("zones")[1], "nor does a bad one")
+        server.write("example.com", 4, last=4)
+        until(lambda: address(stream) == ["192.0.2.4"], "the next copy brings it back")
+        need(f"example.com 4 {path}\n" in server.control("zones")[1], server.control("zones")[1])
+    server = Server(room)
+    with open(f"{server.folder}/zones/example.com.zone.expired", "w", encoding="ascii"):
+        pass
+    with server, server.udp() as stream:
+        need("SERVFAIL" in ask(stream, "www.example.com.", "A")[0], "a zone has expired from the start on")
+
+
 def files_are_included(room):
     with Server(room) as server, server.udp() as stream:
         parts = f"{server.folder}/parts"
@@ -442,7 +470,7 @@ def queries_are_logged(room):
         need(line["zone"] == "example.com." and refused["zone"] is None and refused["kind"] == "refused", refused)
 
 
-TESTS = [faults_are_told, both_ways_are_answered, the_address_that_was_asked_answers, reloads_lose_nothing, zones_come_and_go, files_are_included,
+TESTS = [faults_are_told, both_ways_are_answered, the_address_that_was_asked_answers, reloads_lose_nothing, zones_come_and_go, zones_expire, files_are_included,
          clients_have_limits, descriptors_run_out, responses_have_a_rate, queries_are_logged, floods_are_survived, many_zones_start_soon]
 
 

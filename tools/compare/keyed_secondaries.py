@@ -3,7 +3,8 @@
 and BIND are primaries of secondaryd behind examples/serving/secondary.py, and they are secondaries of ningkraetd beside examples/serving/notify.py. Either
 side has a zone of its own, by AXFR, and after a NOTIFY its next version, which it asks for by IXFR. Each copy is compared, record by record, with what the same server
 reads from the zone file; a line says which primaries sent differences. With another secret, with a key that the primary doesn't know, and with a
-clock that is 400 seconds wrong no copy comes. If a server is missing, it is left out, and a line says so. Not part of the gate: it needs cc, and
+clock that is 400 seconds wrong no copy comes. A copy of which the primary is away for its expire interval is answered with SERVFAIL by ningkraetd until
+the primary is back. If a server is missing, it is left out, and a line says so. Not part of the gate: it needs cc, and
 opens sockets on loopback. It ends what it starts.
 
 The servers are Debian's packages nsd, knot and bind9. FOLDER is what `./build ningkraet` made; where none is named it is what `tools/build/program
@@ -57,6 +58,9 @@ TAKES = {
 }
 # A server that reads zone files and gives them anybody, by which copies are read.
 READS = secondaries.PRIMARY | {"named": 'zone "{origin}" {{ type primary; file "{path}"; check-integrity no; allow-transfer {{ any; }}; }};\n'}
+
+# A zone that expires four seconds after its primary went.
+EXPIRING, BRIEF = "expiring.test.", "$TTL 60\n@ SOA ns h {serial} 1 1 4 60\n@ NS ns\nns A 192.0.2.53\n"
 
 OTHER_SECRET, OTHER_KEY = b"a secret that nobody else has...", "unknown.example."
 # Seconds in which a copy has to come, in which none may, and in which a server has read a zone file; and how wrong a clock is.
@@ -248,16 +252,54 @@ def wrong_of_secondary(server, daemon, library, folder, versions):
     return wrong
 
 
+# ---- a zone expires
+
+
+def code_of(port, origin):
+    """The code with which a server answers for a zone."""
+    with peers.connected(port) as stream:
+        return peers.asked(stream, frames.query([origin, "SOA"]))[3] & 15
+
+
+def wrong_of_expiry(program, daemon, folder):
+    """What is wrong with a copy that expires: ningkraetd is the primary, and answers from the copy too."""
+    room, served, port, wrong = f"{folder}/expiry", free_port(), free_port(), []
+    os.mkdir(room)
+    os.symlink(daemon, f"{room}/ningkraetd")
+    keys, copy, path = key_file(f"{room}/keys"), f"{room}/copy", f"{room}/zone"
+
+    def primary(serial):
+        with open(path, "w", encoding="ascii") as it:
+            it.write(BRIEF.format(serial=serial))
+        return running(peers.daemon(daemon, served, {EXPIRING: path}, f"keys {keys}", f"transfer {EXPIRING} {KEY}"))
+
+    with contextlib.ExitStack() as begun:
+        with primary(1):
+            begun.enter_context(running(secondary(program, EXPIRING, served, copy, keys)))
+            come(lambda: has_serial(copy, 1))
+            begun.enter_context(running(peers.daemon(f"{room}/ningkraetd", port, {EXPIRING: copy}, f"transfer {EXPIRING}")))
+            time.sleep(8)
+            wrong += ["it expires beside its primary"] if soa_serial(port, EXPIRING) != 1 or os.path.exists(f"{copy}.expired") else []
+        wrong += ["it doesn't expire"] if come(lambda: code_of(port, EXPIRING), lambda it: it == 2) != 2 else []
+        wrong += ["it is sent though it has expired"] if secondaries.transferred(port, EXPIRING) else []
+        with primary(2):
+            wrong += ["it doesn't come back"] if come(lambda: soa_serial(port, EXPIRING), lambda it: it == 2) != 2 or os.path.exists(f"{copy}.expired") else []
+    return wrong
+
+
 def main(seed="1", folder=None):
     servers = [server for server in KEYS if peers.found(server)]
     for server in KEYS.keys() - set(servers):
         print(f"keyed_secondaries: {server} isn't there, so it takes and gives nothing")
-    program, library, differs = peers.program("secondaryd"), folder or peers.program("ningkraet"), False
+    program, library = peers.program("secondaryd"), folder or peers.program("ningkraet")
     random.seed(int(seed))
     zones = {f"z{number}.test.": random_zone(f"z{number}.test.", False) for number in range(3)}
     zones |= {"many.test.": [*secondaries.many_names("many.test."), ("ns.many.test.", "A", "192.0.2.53")]}
     with tempfile.TemporaryDirectory() as room:
         versions, daemon = versions_of(room, zones), peers.ningkraetd(library, room)
+        wrong = wrong_of_expiry(program, daemon, room)
+        print(f"a zone that expires: {len(wrong)} wrong", *wrong, sep="\n    ", flush=True)
+        differs = bool(wrong)
         for server in servers:
             given = loaded(server, room, versions)
             wrong, differences = wrong_of_primary(server, program, room, given)

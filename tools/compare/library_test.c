@@ -50,6 +50,8 @@ static uint32_t load(nk_zones *zones, int is_new, const char *origin, const char
 
 static uint32_t drop(nk_zones *zones, const char *origin) { return nk_zones_drop(zones, (const uint8_t *)origin, strlen(origin)); }
 
+static uint32_t expire(nk_zones *zones, const char *origin) { return nk_zones_expire(zones, (const uint8_t *)origin, strlen(origin)); }
+
 static uint32_t prepare(nk_zones *zones, const char *origin) { return nk_zones_prepare(zones, (const uint8_t *)origin, strlen(origin)); }
 
 static uint32_t serial(nk_zones *zones, const char *origin, uint32_t *number) { return nk_zones_serial(zones, (const uint8_t *)origin, strlen(origin), number); }
@@ -91,10 +93,10 @@ static int refusals(void) {
     IS(load(&zones, 0, ORIGIN, text, &written) == NK_CLOSED && !written && is_untouched());
     IS(load(&zones, 1, ORIGIN, text, &written) == NK_CLOSED && !written && is_untouched());
     IS(drop(&zones, ORIGIN) == NK_CLOSED && prepare(&zones, ORIGIN) == NK_CLOSED && serial(&zones, ORIGIN, &number) == NK_CLOSED && number == 8);
-    IS(answer(&zones, "www", 1, NK_UDP, 1232, &written) == NK_CLOSED && !written && nk_zones_copy(&zones, &other) == NK_CLOSED);
+    IS(answer(&zones, "www", 1, NK_UDP, 1232, &written) == NK_CLOSED && !written && nk_zones_copy(&zones, &other) == NK_CLOSED && expire(&zones, ORIGIN) == NK_CLOSED);
     IS(nk_zones_new(&zones) == NK_DONE && drop(&zones, ORIGIN) == NK_NO_ZONE && prepare(&zones, ORIGIN) == NK_NO_ZONE && serial(&zones, ORIGIN, &number) == NK_NO_ZONE && number == 8);
     IS(load(&zones, 0, "a..b", text, &written) == NK_BAD_NAME && !written && drop(&zones, "a..b") == NK_BAD_NAME && is_untouched());
-    IS(serial(&zones, "a..b", &number) == NK_BAD_NAME && number == 8 && prepare(&zones, "a..b") == NK_BAD_NAME);
+    IS(serial(&zones, "a..b", &number) == NK_BAD_NAME && number == 8 && prepare(&zones, "a..b") == NK_BAD_NAME && expire(&zones, "a..b") == NK_BAD_NAME && expire(&zones, ORIGIN) == NK_NO_ZONE);
     IS(load(&zones, 0, ORIGIN, text, &written) == NK_DONE && load(&zones, 1, ORIGIN, text, &written) == NK_ZONE_EXISTS && !written);
     IS(load(&zones, 0, ORIGIN, bad_text, &written) == NK_BAD_TEXT && written > 60 && !memcmp(room, told_of_it, strlen(told_of_it)) && room[written - 1] == '\n');
     IS(load(&zones, 0, "b.example", "@ 1 SOA a b 1 2 3 4 5\n@ 1 NS a\nc.example. 1 A 192.0.2.1\n", &written) == NK_DONE && written);   /* outside of it: a warning */
@@ -111,6 +113,24 @@ static int refusals(void) {
     IS(answer(&other, "www", 1, NK_UDP, 1232, &written) == NK_DONE && !(room[3] & 15) && room[7] == 1);
     IS(nk_zones_copy(&zones, &other) == NK_CLOSED && serial(&other, "b.example", &number) == NK_DONE && number == 1);
     nk_zones_free(&other);
+    return 0;
+}
+
+/* A zone that has expired fails, with and without answers that were kept, until it is loaded again; others don't. */
+static int expiry(void) {
+    nk_zones zones = NK_ZONES_NONE, other = NK_ZONES_NONE;
+    size_t written;
+    uint32_t number;
+    IS(nk_zones_new(&zones) == NK_DONE && load(&zones, 0, ORIGIN, text, &written) == NK_DONE && load(&zones, 0, "other.example", text, &written) == NK_DONE);
+    IS(nk_zones_copy(&zones, &other) == NK_DONE && prepare(&zones, ORIGIN) == NK_DONE && expire(&zones, ORIGIN) == NK_DONE && expire(&zones, ORIGIN) == NK_DONE);
+    for (int again = 0; again < 2; again++) {
+        IS(answer(&zones, "www", 1, NK_UDP, 1232, &written) == NK_DONE && room[3] == 2 && !(room[2] & 4) && !room[7] && !room[9]);   /* SERVFAIL, without AA */
+        IS(answer(&zones, "www", 41, NK_TCP, sizeof room, &written) == NK_DONE && (room[3] & 15) == 4);            /* no type of data */
+        IS(serial(&zones, ORIGIN, &number) == NK_DONE && !number && prepare(&zones, ORIGIN) == NK_DONE);
+    }
+    IS(serial(&zones, "other.example", &number) == NK_DONE && number == 7 && answer(&other, "www", 1, NK_UDP, 1232, &written) == NK_DONE && room[7] == 1);
+    IS(load(&zones, 0, ORIGIN, text, &written) == NK_DONE && answer(&zones, "www", 1, NK_UDP, 1232, &written) == NK_DONE && room[7] == 1);
+    nk_zones_free(&zones), nk_zones_free(&other);
     return 0;
 }
 
@@ -295,6 +315,8 @@ static int transfers(void) {
     IS(nk_transfer_next(&transfer, 1300, room, sizeof room, &written) == NK_NO_MORE && !written && nk_transfer_next(&transfer, 1300, room, sizeof room, &written) == NK_NO_TRANSFER);
     IS(read_keys("", &written) == NK_DONE && allow(ORIGIN, "") == NK_DONE && ask_zone(&transfer, &zones, 0, 1000, NK_TCP, sizeof room, &written) == NK_DONE && (room[3] & 15) == 9);
     IS(load(&zones, 0, ORIGIN, text, &written) == NK_DONE && ask_zone(&transfer, &zones, 0, 1000, NK_TCP, sizeof room, &written) == NK_TRANSFER);
+    IS(expire(&zones, ORIGIN) == NK_DONE && nk_transfer_next(&transfer, 1000, room, sizeof room, &written) == NK_DONE && written > 300);   /* as it was when it began */
+    IS(ask_zone(&transfer, &zones, 0, 1000, NK_TCP, sizeof room, &written) == NK_DONE && (room[3] & 15) == 2);
     nk_transfer_free(&transfer), nk_transfer_free(&transfer), nk_access_free(&access), nk_zones_free(&zones);
     return 0;
 }
@@ -319,7 +341,7 @@ static int transfer_failures(nk_zones *zones) {
 /* The calls of the session, by their numbers; and what is asked for. */
 static const char *const labels[] = {"www", "nowhere", "a.cut", "alias", "a.wild", "www"};
 static const int types[] = {16, 1, 1, 1, 1, 15};
-enum { NEW, LOAD, LOAD_BAD, ADD, SERIAL, COPY, DROP, PREPARE, CLIENT, ANSWER, CALLS = ANSWER + 6 };
+enum { NEW, LOAD, LOAD_BAD, ADD, SERIAL, COPY, DROP, EXPIRE, PREPARE, CLIENT, ANSWER, CALLS = ANSWER + 6 };
 
 /* A copy has the zones, or the other stays as it was. */
 static uint32_t copied(nk_zones *zones, nk_zones *other) {
@@ -331,6 +353,16 @@ static uint32_t copied(nk_zones *zones, nk_zones *other) {
     return is_well ? code : 96;
 }
 
+/* A zone has expired, or stayed as it was. */
+static uint32_t expired(nk_zones *zones) {
+    uint32_t number, code = expire(zones, "other.example");
+    long rest = left;
+    left = -1;
+    int is_well = serial(zones, "other.example", &number) == NK_DONE && number == (code == NK_DONE ? 0 : 7);
+    left = rest;
+    return is_well ? code : 95;
+}
+
 /* Makes a call. A room that isn't written has to stay as it was, and what a call doesn't change too. */
 static uint32_t call(nk_zones *zones, nk_zones *other, int number) {
     size_t written = 9;
@@ -338,6 +370,7 @@ static uint32_t call(nk_zones *zones, nk_zones *other, int number) {
     memset(room, 85, sizeof room);
     if (number == NEW) return nk_zones_new(zones);
     if (number == DROP) return drop(zones, "other.example");
+    if (number == EXPIRE) return expired(zones);
     if (number == PREPARE) return prepare(zones, ORIGIN);
     if (number == COPY) return copied(zones, other);
     if (number == SERIAL) return (code = serial(zones, ORIGIN, &of)) == NK_DONE && of != 7 ? 99 : code != NK_DONE && of != 8 ? 98 : code;
@@ -357,7 +390,7 @@ static int failures(nk_zones *zones) {
         for (long nth = 1;; nth++) {
             nk_zones other = NK_ZONES_NONE;
             if (number == ADD) drop(zones, "other.example");
-            if (number == DROP) call(zones, &other, ADD);
+            if (number == DROP || number == EXPIRE) call(zones, &other, ADD);
             left = nth;
             uint32_t code = call(zones, &other, number);
             int all_there = left > 0;
@@ -405,7 +438,7 @@ static int datagrams(nk_zones *zones, long count) {
 int main(int argc, char **argv) {
     nk_zones zones = NK_ZONES_NONE;
     memset(before, 85, sizeof before);
-    int status = refusals() || included() || notified() || plan_refusals() || transfers() || cookies() || failures(&zones) || datagrams(&zones, argc > 1 ? atol(argv[1]) : 0) || transfer_failures(&zones) || plan_failures(&zones);
+    int status = refusals() || expiry() || included() || notified() || plan_refusals() || transfers() || cookies() || failures(&zones) || datagrams(&zones, argc > 1 ? atol(argv[1]) : 0) || transfer_failures(&zones) || plan_failures(&zones);
     nk_zones_free(&zones);
     return status;
 }

@@ -1,6 +1,6 @@
 //! The zones of a server for programs that aren't written in Rattle: what `include/ningkraet.h` declares, each by one call of
-//! `zone_database`, `arrival_calls`, `transfer_calls`, `notify_calls`, `plan_calls` or `file_calls`. C passes no allocator; to C a slice is a pointer and a length,
-//! and a `&mut` a pointer.
+//! `zone_database`, `arrival_calls`, `transfer_calls`, `notify_calls`, `expiry_calls`, `plan_calls` or `file_calls`. C passes no allocator; to C a slice is a
+//! pointer and a length, and a `&mut` a pointer.
 #![tactic(auto)]
 
 ghost use Rattle.std.specs.Prelude.{◌≡◌, [], None, Err, Ok};
@@ -12,6 +12,7 @@ ghost use Rattle.transfer_calls.specs.Outcomes.{Codes as TransferCodes};
 ghost use Rattle.transfer_calls.specs.Transfers.{AnswersMessage, GivesMessage};
 ghost use Rattle.message_notify.specs.Notifies.{response_of};
 ghost use Rattle.notify_calls.specs.NotifyCalls.{ReadsResponse, WritesNotify};
+ghost use Rattle.expiry_calls.specs.Expiry.{Expires};
 ghost use Rattle.plan_calls.specs.Calls.{BeginsHeld, FinishesHeld, GivesHeld, TakesHeld};
 ghost use Rattle.plan_calls.specs.Outcomes.{Codes as PlanCodes};
 ghost use Rattle.included_texts.specs.Kept.{files_of, IsSame};
@@ -110,6 +111,15 @@ pub extern "C" fn nk_zones_drop(alloc: Global, zones: &mut DatabaseHandle, origi
         ChangesHeld (IsDropped origin.now) zones.old.held o zones.new.held) }
 {
     calls::remove(alloc, zones, origin).code()
+}
+
+/// Has the zone of an origin expire: until it is loaded again, it fails.
+#[unsafe(no_mangle)]
+pub extern "C" fn nk_zones_expire(alloc: Global, zones: &mut DatabaseHandle, origin: &[u8]) -> u32
+    ensures { Codes result (λ o.
+        ChangesHeld (Expires origin.now) zones.old.held o zones.new.held) }
+{
+    expiry_calls::expire(alloc, zones, origin).code()
 }
 
 /// Keeps the answers that the zone of an origin gives most, as the octets that go out. No zone and no answer changes.
