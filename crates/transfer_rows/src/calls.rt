@@ -1,31 +1,38 @@
 //! Calls of rows.
 
+use crate::access::{KeyedServer, allow_told, keys_told, request_told, zone_told};
 use crate::answers::{answer_told, query_told};
 use compared_rows::Caller;
 use line_text::{TextError, Words, read_record};
 use std::alloc::Global;
 use zone_proto::Record;
 
-/// Makes calls with the records that those before added.
+/// Makes calls with the records that those before added, and of the server that they made.
 #[derive(Drop)]
 pub struct TransferCaller {
     held: Vec<Record>,
+    server: KeyedServer,
 }
 
 impl Caller for TransferCaller {
     fn new(alloc: Global) -> TransferCaller {
         TransferCaller {
             held: Vec::new(alloc),
+            server: KeyedServer::new(alloc),
         }
     }
 
     fn answer(&mut self, alloc: Global, call: &str) -> Result<String, TextError> {
-        let (verb, words) = call.split_once(" ").unwrap_or((call, ""));
-        let words = Words::new(words.as_bytes());
+        let (verb, text) = call.split_once(" ").unwrap_or((call, ""));
+        let words = Words::new(text.as_bytes());
         match verb {
             "held" => held_answer(alloc, &mut self.held, words),
             "query" => query_told(alloc, words),
             "answer" => answer_told(alloc, self.held.as_slice(), words),
+            "keys" => keys_told(alloc, &mut self.server, text),
+            "zone" => zone_told(alloc, &mut self.server, text),
+            "allow" => allow_told(alloc, &mut self.server, words),
+            "request" => request_told(alloc, &self.server, words),
             _ => Err(TextError::BadText),
         }
     }
