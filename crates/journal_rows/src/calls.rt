@@ -3,6 +3,7 @@
 use crate::changes::{changed_answer, cuts_answer};
 use crate::journal::{Journal, frame_answer, journal_answer, version_answer};
 use crate::replays::{replay_answer, replay_here_answer, replay_scarce_answer};
+use crate::transfers::changes_answer;
 use compared_rows::Caller;
 use line_text::{TextError, Words, read_key, read_name, read_record};
 use std::alloc::Global;
@@ -44,6 +45,7 @@ impl Caller for Case {
             "cuts" => cuts_answer(alloc, self, text),
             "changed-octets" => changed_answer(alloc, &self.journal),
             "scarce-replay" => replay_scarce_answer(alloc, self),
+            "changes" => changes_answer(alloc, self, text),
             _ => Err(TextError::BadText),
         }
     }

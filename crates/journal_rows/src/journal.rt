@@ -4,7 +4,7 @@ use crate::calls::Case;
 use compared_rows::read_octets;
 use journal_frames::push_frame;
 use line_text::{TextError, Words};
-use shown_zones::{shown, step_between};
+use shown_zones::{ZoneStep, shown, step_between};
 use std::alloc::Global;
 use zone_difference::copied;
 use zone_journal::{EntryFault, push_step};
@@ -23,6 +23,8 @@ pub struct Journal {
     pub shown: Vec<RecordMap>,
     /// The last version.
     pub last: RecordMap,
+    /// The steps from version to version.
+    pub steps: Vec<ZoneStep>,
 }
 
 impl Journal {
@@ -32,6 +34,7 @@ impl Journal {
             octets: Vec::new(alloc),
             shown: Vec::new(alloc),
             last: RecordMap::new(alloc),
+            steps: Vec::new(alloc),
         }
     }
 }
@@ -44,6 +47,7 @@ pub fn journal_answer(alloc: Global, case: &mut Case) -> Result<String, TextErro
         octets: Vec::new(alloc),
         shown: versions,
         last: copied(alloc, &case.zone)?,
+        steps: Vec::new(alloc),
     };
     Ok(format!(in alloc; "begun")?)
 }
@@ -58,6 +62,7 @@ pub fn version_answer(alloc: Global, case: &mut Case) -> Result<String, TextErro
         Ok(()) => {
             case.journal.shown.push(shown(alloc, &case.zone)?)?;
             case.journal.last = copied(alloc, &case.zone)?;
+            case.journal.steps.push(step)?;
             Ok(format!(in alloc; "put")?)
         }
         Err(EntryFault::Memory) => Err(TextError::Memory),

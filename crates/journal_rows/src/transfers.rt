@@ -1,0 +1,193 @@
+//! Steps sent to a secondary.
+
+use crate::calls::Case;
+use difference_messages::{
+    DifferenceAnswer, DifferenceFault, DifferenceReply, difference_groups, reply_to, write_next,
+};
+use line_text::{RecordText, TextError, Words};
+use message_reading::{Query, ReadError, read_query};
+use message_writing::Group;
+use std::alloc::{AllocError, Global};
+use transfer_reading::{
+    AnswerFault, Asked, Outcome, OutcomeFault, Question, Transfer, write_query,
+};
+use zone_map::RecordMap;
+use zone_proto::{RData, Record, RecordSet};
+
+/// What answers a secondary that holds the version of a serial.
+pub fn changes_answer(alloc: Global, case: &Case, text: &str) -> Result<String, TextError> {
+    let mut words = Words::new(text.as_bytes());
+    let held = words.take_u32()?;
+    let limit = words.take_u16()?;
+    words.end()?;
+    let steps = case.journal.steps.as_slice();
+    let last = steps.last().ok_or(TextError::BadText)?;
+    let newest = serial_of(&last.new_soa).ok_or(TextError::BadText)?;
+    match reply_to(held, newest, steps) {
+        DifferenceReply::StartOfAuthority => Ok(format!(in alloc; "SOA")?),
+        DifferenceReply::WholeZone => Ok(format!(in alloc; "whole zone")?),
+        DifferenceReply::StepsFrom(place) => sent_answer(alloc, case, held, place, limit),
+    }
+}
+
+/// The serial of an SOA.
+fn serial_of(soa: &RecordSet) -> Option<u32> {
+    match soa.as_slice().first() {
+        Some(first) => serial_in(&first.rdata),
+        None => None,
+    }
+}
+
+/// The serial of the data of an SOA.
+fn serial_in(rdata: &RData) -> Option<u32> {
+    match rdata {
+        RData::SOA(soa) => Some(soa.serial),
+        _ => None,
+    }
+}
+
+/// In how many messages the steps from a place on are sent, and what a secondary has then that had the version before them.
+fn sent_answer(
+    alloc: Global,
+    case: &Case,
+    held: u32,
+    place: usize,
+    limit: u16,
+) -> Result<String, TextError> {
+    let asked = Asked {
+        id: 7,
+        origin: case.origin.clone()?,
+        question: Question::Changes(held),
+    };
+    let query = query_of(alloc, &asked)?;
+    let groups = groups_from(alloc, case, place)?;
+    let mut transfer = Transfer::new(alloc, asked);
+    match count_sent(alloc, &query, groups.as_slice(), limit, &mut transfer)? {
+        None => Ok(format!(in alloc; "not taken")?),
+        Some(count) => {
+            let word = made_of(alloc, case, place, transfer)?;
+            Ok(format!(in alloc; "messages: {count}, {word}")?)
+        }
+    }
+}
+
+/// The query of a secondary.
+fn query_of(alloc: Global, asked: &Asked) -> Result<Query, TextError> {
+    let octets = write_query(alloc, asked)?;
+    match read_query(alloc, octets.as_slice()) {
+        Ok(query) => Ok(query),
+        Err(ReadError::Memory) => Err(TextError::Memory),
+        Err(_) => Err(TextError::BadText),
+    }
+}
+
+/// The records of the steps from a place on.
+fn groups_from(alloc: Global, case: &Case, place: usize) -> Result<Vec<Group<'_>>, TextError> {
+    let steps = case.journal.steps.as_slice();
+    if place > steps.len() {
+        return Err(TextError::BadText);
+    }
+    let (_, left) = steps.split_at(place);
+    let last = left.last().ok_or(TextError::BadText)?;
+    Ok(difference_groups(alloc, &last.new_soa, left)?)
+}
+
+/// Sends all messages to a secondary: how many; none where one can't be sent, or isn't taken.
+fn count_sent(
+    alloc: Global,
+    query: &Query,
+    groups: &[Group<'_>],
+    limit: u16,
+    transfer: &mut Transfer,
+) -> Result<Option<usize>, TextError> {
+    if limit < 282 {
+        return Err(TextError::BadText);
+    }
+    let mut sent = 0usize;
+    let mut message = Vec::new(alloc);
+    for count in 0..usize::MAX {
+        let answer = DifferenceAnswer {
+            query,
+            groups,
+            size: 1232,
+            limit,
+        };
+        match write_next(alloc, &answer, sent, &mut message) {
+            Ok(Some(next)) => sent = next,
+            Ok(None) => return Ok(Some(count)),
+            Err(DifferenceFault::Memory) => return Err(TextError::Memory),
+            Err(DifferenceFault::Unsendable) => return Ok(None),
+        }
+        if !is_taken(alloc, transfer, message.as_slice())? {
+            return Ok(None);
+        }
+    }
+    Ok(None)
+}
+
+/// Whether a secondary takes a message.
+fn is_taken(alloc: Global, transfer: &mut Transfer, message: &[u8]) -> Result<bool, TextError> {
+    match transfer.take(alloc, message) {
+        Ok(()) => Ok(true),
+        Err(AnswerFault::Memory) => Err(TextError::Memory),
+        Err(_) => Ok(false),
+    }
+}
+
+/// Whether a secondary has the last version, that had the one at a place.
+fn made_of(
+    alloc: Global,
+    case: &Case,
+    place: usize,
+    transfer: Transfer,
+) -> Result<&'static str, TextError> {
+    let versions = case.journal.shown.as_slice();
+    let before = versions.get(place).ok_or(TextError::BadText)?;
+    let last = versions.last().ok_or(TextError::BadText)?;
+    let held = records_of(alloc, before)?;
+    let wanted = records_of(alloc, last)?;
+    match transfer.finish(alloc, held.as_slice()) {
+        Ok(Outcome::Zone(records)) => Ok(compared(alloc, records.as_slice(), wanted.as_slice())?),
+        Ok(Outcome::Serial(_)) => Ok("a serial"),
+        Err(OutcomeFault::Memory) => Err(TextError::Memory),
+        Err(_) => Ok("a fault"),
+    }
+}
+
+/// Whether records are the same, TTLs included.
+fn compared(
+    alloc: Global,
+    records: &[Record],
+    wanted: &[Record],
+) -> Result<&'static str, AllocError> {
+    let one = records_text(alloc, records)?;
+    let other = records_text(alloc, wanted)?;
+    Ok(if one.as_str() == other.as_str() {
+        "same"
+    } else {
+        "other"
+    })
+}
+
+/// Records as text.
+fn records_text(alloc: Global, records: &[Record]) -> Result<String, AllocError> {
+    let mut text = String::new(alloc);
+    for record in records {
+        write!(text, "{}; ", RecordText(record))?;
+    }
+    Ok(text)
+}
+
+/// The records of a zone, of each set its signatures last.
+fn records_of(alloc: Global, zone: &RecordMap) -> Result<Vec<Record>, TextError> {
+    let mut records = Vec::new(alloc);
+    for (_, set) in zone.iter() {
+        for record in set.as_slice() {
+            records.push(record.clone()?)?;
+        }
+        for signature in set.rrsigs() {
+            records.push(signature.clone()?)?;
+        }
+    }
+    Ok(records)
+}
