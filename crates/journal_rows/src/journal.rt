@@ -3,6 +3,7 @@
 use crate::calls::Case;
 use compared_rows::read_octets;
 use journal_frames::push_frame;
+use kept_steps::KeptSteps;
 use line_text::{TextError, Words};
 use shown_zones::{ZoneStep, shown, step_between};
 use std::alloc::Global;
@@ -25,6 +26,8 @@ pub struct Journal {
     pub last: RecordMap,
     /// The steps from version to version.
     pub steps: Vec<ZoneStep>,
+    /// The newest of them, which are kept.
+    pub kept: KeptSteps,
 }
 
 impl Journal {
@@ -35,6 +38,7 @@ impl Journal {
             shown: Vec::new(alloc),
             last: RecordMap::new(alloc),
             steps: Vec::new(alloc),
+            kept: KeptSteps::new(alloc, 0),
         }
     }
 }
@@ -48,6 +52,7 @@ pub fn journal_answer(alloc: Global, case: &mut Case) -> Result<String, TextErro
         shown: versions,
         last: copied(alloc, &case.zone)?,
         steps: Vec::new(alloc),
+        kept: KeptSteps::new(alloc, 0),
     };
     Ok(format!(in alloc; "begun")?)
 }
@@ -61,6 +66,7 @@ pub fn version_answer(alloc: Global, case: &mut Case) -> Result<String, TextErro
     match push_step(alloc, &case.origin, &step, &mut case.journal.octets) {
         Ok(()) => {
             case.journal.shown.push(shown(alloc, &case.zone)?)?;
+            keep_step(alloc, &origin, case)?;
             case.journal.last = copied(alloc, &case.zone)?;
             case.journal.steps.push(step)?;
             Ok(format!(in alloc; "put")?)
@@ -68,6 +74,14 @@ pub fn version_answer(alloc: Global, case: &mut Case) -> Result<String, TextErro
         Err(EntryFault::Memory) => Err(TextError::Memory),
         Err(fault) => Ok(format!(in alloc; "{fault:?}")?),
     }
+}
+
+/// Keeps the step to the zone as it is.
+fn keep_step(alloc: Global, origin: &LowerName, case: &mut Case) -> Result<(), TextError> {
+    if let Some(step) = step_between(alloc, origin, &case.journal.last, &case.zone)? {
+        case.journal.kept.push(step)?;
+    }
+    Ok(())
 }
 
 /// Puts octets in a frame behind the journal.

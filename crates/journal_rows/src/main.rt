@@ -1,5 +1,6 @@
 //! Keeps journals of zones, and replays them whole, cut off and changed, from the first version or a later one, and sends steps to secondaries
-//! (RFC 1995), as rows of text describe; reports which rows have another answer. Each line of standard input names a file of rows in the current directory, `data`.
+//! (RFC 1995), as rows of text describe; reports which rows have another answer. Each line of standard input names a file of rows in the current
+//! directory, `data`.
 //!
 //! A row is `CALL => ANSWER`; a line without `=>` is a comment, and spaces within answers are passed over. Records are words as they are
 //! printed, without their class. The calls:
@@ -16,12 +17,15 @@
 //! - `frame HEX` puts octets in a frame behind the journal: `put`;
 //! - `scarce-replay` replays it with no memory left, and then with a little more each time: whether memory was refused, and the answer then;
 //! - `changes SERIAL LIMIT` answers a secondary that holds the version of this serial, in messages of so many octets at most: by steps, in how
-//!   many messages, and whether it has the last version then, `same`, or `other`; or by the `SOA`, or the `whole zone`.
+//!   many messages, and whether it has the last version then, `same`, or `other`; or by the `SOA`, or the `whole zone`;
+//! - `keep COUNT` keeps the steps to versions from here on, of so many records at most, and `kept SERIAL` tells how many of them a secondary
+//!   lacks that holds the version of this serial, or `none`.
 #![tactic(auto)]
 
 mod calls;
 mod changes;
 mod journal;
+mod keeping;
 mod replays;
 mod transfers;
 

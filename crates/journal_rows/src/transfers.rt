@@ -21,13 +21,23 @@ pub fn changes_answer(alloc: Global, case: &Case, text: &str) -> Result<String, 
     let limit = words.take_u16()?;
     words.end()?;
     let steps = case.journal.steps.as_slice();
-    let last = steps.last().ok_or(TextError::BadText)?;
-    let newest = serial_of(&last.new_soa).ok_or(TextError::BadText)?;
+    let newest = newest_of(case)?;
     match reply_to(held, newest, steps) {
         DifferenceReply::StartOfAuthority => Ok(format!(in alloc; "SOA")?),
         DifferenceReply::WholeZone => Ok(format!(in alloc; "whole zone")?),
         DifferenceReply::StepsFrom(place) => sent_answer(alloc, case, held, place, limit),
     }
+}
+
+/// The serial of the last version.
+pub fn newest_of(case: &Case) -> Result<u32, TextError> {
+    let last = case
+        .journal
+        .steps
+        .as_slice()
+        .last()
+        .ok_or(TextError::BadText)?;
+    serial_of(&last.new_soa).ok_or(TextError::BadText)
 }
 
 /// The serial of an SOA.
