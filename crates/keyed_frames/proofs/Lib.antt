@@ -1,0 +1,4 @@
+pub mod Sent
+pub mod ServedFrames
+pub mod StoppedFrames
+pub mod Written

@@ -1,0 +1,11 @@
+//! Frames of messages answered over any reader and writer by a server with keys (TSIG, RFC 8945): a zone is sent to those who sign with a key
+//! to which it is granted (RFC 5936), each of its messages signed.
+#![tactic(auto)]
+
+mod clock;
+mod frames;
+mod sending;
+mod serving;
+
+pub use clock::Clock;
+pub use serving::serve_keyed_frames;
