@@ -1,0 +1,185 @@
+//! An update of a zone of a database carried out beside it, and the response to it.
+ghost use Rattle.std.specs.Prelude.{◌≡◌, ◌<◌, Ok, IfOk, OnOk, option_copied};
+ghost use Rattle.update_answers.specs.Replies.{reply_text};
+ghost use Rattle.update_message.specs.Updates.{parts_of, update_of};
+ghost use Rattle.zone_database.specs.Databases.{zones_in};
+ghost use Rattle.zone_database.specs.Zones.{zone_of_records};
+ghost use Rattle.zone_update.specs.Entries.{code_of, Gives};
+ghost use Rattle.held_updates.specs.Answering.{outcome_among, updated_in, Plans, RepliesTo};
+
+use crate::access::UpdateAccess;
+use crate::signed_zones::is_signed;
+use message_reading::Header;
+use std::alloc::{AllocError, Global};
+use update_message::{OPCODE, UpdateError, UpdateMessage, read_update, write_response};
+use update_permission::updated_if_permitted;
+use update_policy::Rule;
+use zone_database::{Zone, ZoneDatabase, zone_of};
+use zone_map::RecordMap;
+use zone_proto::LowerName;
+use zone_update::{Refusal, Update};
+
+/// What is to become of the zones by a message.
+#[derive(Drop)]
+pub(crate) enum Planned {
+    /// Nothing: it is no update.
+    Other,
+    /// Nothing: the update is refused, and the response is there.
+    Refused,
+    /// This zone is to take the place of the one of its origin, and the response is there.
+    Updated(Zone),
+}
+
+/// Carries out an update of a zone among those of a database, for the owner of a key, and writes the response in place of the octets of `out`.
+/// The message has no TSIG any more. Fails only for lack of memory.
+pub(crate) fn plan(
+    alloc: Global,
+    zones: &ZoneDatabase,
+    access: &UpdateAccess,
+    key: Option<&LowerName>,
+    message: &[u8],
+    out: &mut Vec<u8>,
+) -> Result<Planned, AllocError>
+    ensures { IfOk result (λ planned. Plans
+        (outcome_among access.now (option_copied key.entry) (zones_in zones.now))
+        (update_of message.now) planned out.new.items) }
+{
+    match read_update(alloc, message) {
+        Ok(asked) => plan_asked(alloc, zones, access, key, asked, out),
+        Err(UpdateError::Malformed(header)) => {
+            refuse(out, header, Refusal::FormErr, false)?;
+            Ok(Planned::Refused)
+        }
+        Err(UpdateError::OtherClass(header)) => {
+            refuse(out, header, Refusal::NotAuth, false)?;
+            Ok(Planned::Refused)
+        }
+        Err(UpdateError::NoUpdate) => Ok(Planned::Other),
+        Err(UpdateError::Memory) => Err(AllocError),
+    }
+}
+
+/// The same for an update that was read.
+#[tactic(auto, using(crate::proofs::Plans::planned_of))]
+fn plan_asked(
+    alloc: Global,
+    zones: &ZoneDatabase,
+    access: &UpdateAccess,
+    key: Option<&LowerName>,
+    asked: UpdateMessage,
+    out: &mut Vec<u8>,
+) -> Result<Planned, AllocError>
+    ensures { IfOk result (λ planned. Plans
+        (outcome_among access.now (option_copied key.entry) (zones_in zones.now))
+        (Ok (parts_of asked)) planned out.new.items) }
+{
+    let UpdateMessage {
+        header,
+        zone: name,
+        update,
+        has_extension,
+    } = asked;
+    let Ok(origin) = LowerName::new(&name) else {
+        return Err(AllocError);
+    };
+    let (zone, rules) = (zones.get(&origin), access.rules_for(&origin));
+    let after = updated_in(alloc, rules, key, &origin, zone, update);
+    let planned = reply(alloc, origin, after, header, has_extension, out)?;
+    Ok(planned)
+}
+
+/// Writes the response to an update of the zone of an origin that ended so.
+fn reply(
+    alloc: Global,
+    origin: LowerName,
+    after: Result<RecordMap, Refusal>,
+    header: Header,
+    has_extension: bool,
+    out: &mut Vec<u8>,
+) -> Result<Planned, AllocError>
+    ensures { IfOk result (λ planned.
+        RepliesTo after origin header has_extension planned out.new.items) }
+{
+    match after {
+        Ok(after) => {
+            let zone = zone_after(alloc, origin, after)?;
+            match respond(out, header, 0, has_extension) {
+                Ok(()) => Ok(Planned::Updated(zone)),
+                Err(_) => {
+                    drop(zone);
+                    Err(AllocError)
+                }
+            }
+        }
+        Err(refusal) => {
+            refuse(out, header, refusal, has_extension)?;
+            Ok(Planned::Refused)
+        }
+    }
+}
+
+/// The sets of the zone of an origin after an update, if there is such a zone, and it isn't signed.
+fn updated_in(
+    alloc: Global,
+    rules: &[Rule],
+    key: Option<&LowerName>,
+    origin: &LowerName,
+    zone: Option<&Zone>,
+    update: Update,
+) -> Result<RecordMap, Refusal>
+    ensures { Gives result
+        (updated_in rules.now (option_copied key.entry) origin.now (option_copied zone.entry)
+        update.prerequisites.items update.changes.items) }
+{
+    let Some(zone) = zone else {
+        return Err(Refusal::NotAuth);
+    };
+    match is_signed(zone) {
+        Ok(false) => {
+            updated_if_permitted(alloc, rules, key, origin, zone.inner.record_map(), update)
+        }
+        Ok(true) => Err(Refusal::Refused),
+        Err(_) => Err(Refusal::Memory),
+    }
+}
+
+/// The zone of an origin with these sets.
+fn zone_after(alloc: Global, origin: LowerName, after: RecordMap) -> Result<Zone, AllocError>
+    ensures { IfOk result (λ z. z ≡ zone_of_records origin after) }
+{
+    // That they are those of a zone is told where they are lent.
+    let _sets = after.as_map();
+    match zone_of(alloc, origin, after) {
+        Ok(zone) => Ok(zone),
+        Err(_) => Err(AllocError),
+    }
+}
+
+/// Writes the response of a refusal.
+pub(crate) fn refuse(
+    out: &mut Vec<u8>,
+    header: Header,
+    refusal: Refusal,
+    has_extension: bool,
+) -> Result<(), AllocError>
+    ensures { OnOk result (out.new.items ≡ reply_text header (code_of refusal) has_extension) }
+{
+    respond(out, header, refusal.code(), has_extension)
+}
+
+/// Writes a response with a code of four bits.
+fn respond(
+    out: &mut Vec<u8>,
+    header: Header,
+    code: u8,
+    has_extension: bool,
+) -> Result<(), AllocError>
+    requires { code < 16 }
+    ensures { OnOk result (out.new.items ≡ reply_text header code has_extension) }
+{
+    let header = Header {
+        opcode: OPCODE,
+        ..header
+    };
+    write_response(out, header, code, has_extension)
+}
