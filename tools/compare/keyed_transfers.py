@@ -1,8 +1,8 @@
 #!/usr/bin/env python3
 """tools/compare/keyed_transfers.py [FOLDER]: the server `server/` beside clients that ask for zones with keys (TSIG, RFC 8945), by the HMAC of
-Python, which judges each message of each response; and beside dig and kdig where they are there. FOLDER is what `./build ningkraet` made; where
-none is named it is what `tools/build/program path ningkraet` gives. No part of the gate: it needs cc, and opens sockets on loopback. It ends
-what it starts."""
+Python, which judges each message of each response; and beside dig and kdig where they are there; and zoned behind its front end. FOLDER is what
+`./build ningkraet` made; where none is named it is what `tools/build/program path ningkraet` gives. No part of the gate: it needs cc, and opens
+sockets on loopback. It ends what it starts."""
 import base64
 import hashlib
 import hmac
@@ -21,7 +21,7 @@ sys.path.append(os.path.dirname(os.path.dirname(os.path.realpath(__file__))))
 
 import frames
 import peers
-from daemon_test import Server, need
+from daemon_test import ZONE, Server, need
 
 KEY, SECRET = "key.example.", b"a secret that two servers share."
 OTHER = "other.example."
@@ -227,7 +227,38 @@ def other_clients_take_it(room):
             need(sum("\tIN\t" in it or " IN " in it for it in text.splitlines() if not it.startswith(";")) == 8 and "BADSIG" not in text, text)
 
 
-TESTS = [faults_are_told, zones_go_to_their_keys, a_zone_stays_as_it_was, other_clients_take_it]
+class Front(NamedTuple):
+    """A front end, by its port."""
+
+    port: int
+
+
+def zoned_sends_them_too(room):
+    """By its front end, which gives messages identifiers of its own. There is a key for all zones that are sent to those who sign."""
+    front, path = Front(peers.free_port()), f"{room}/zoned.zone"
+    with open(path, "w", encoding="ascii") as it:
+        it.write(ZONE.format(origin="example.com.", serial=1, last=80) + "".join(f"n{number} A 192.0.2.1\n" for number in range(LARGE)))
+    process = peers.begun(peers.front(peers.program("zoned"), front.port, {"example.com.": path}, "--keys", f"{room}/keys", "--signed"))
+    try:
+        peers.connected(front.port).close()
+        whole, current = asked(front), asked(front, kind=IXFR, serial=1)
+        need(whole.right and not whole.code and not whole.error and whole.messages > 5 and whole.answers == LARGE + 8, whole)
+        need(current.right and (current.messages, current.answers) == (1, 1), current)
+        for told, wanted in (
+            (asked(front, key=OTHER), (0, 0, True)),
+            (asked(front, kind=SOA), (0, 0, True)),
+            (asked(front, key=None), (REFUSED, None, False)),
+            (asked(front, "nowhere.example"), (NOTAUTH, 0, True)),
+            (asked(front, turned=1), (NOTAUTH, BADSIG, False)),
+            (asked(front, key="unknown.example."), (NOTAUTH, BADKEY, False)),
+            (asked(front, when=int(time.time()) - 400), (NOTAUTH, BADTIME, True)),
+        ):
+            need((told.code, told.error, told.right) == wanted, (told, wanted))
+    finally:
+        peers.end(process)
+
+
+TESTS = [faults_are_told, zones_go_to_their_keys, a_zone_stays_as_it_was, zoned_sends_them_too, other_clients_take_it]
 
 
 def main(folder=None):

@@ -1,19 +1,22 @@
-//! `zoned [--check] [--limits] [ZONE..] [--transfers ZONE..]`: answers the frames of messages on standard input from zone
-//! files, up to the end of the input, on standard output. It opens no socket: another program connects one to its streams.
+//! `zoned [--check] [--limits] [--keys FILE] [ZONE..] [--transfers ZONE..] [--signed ZONE..]`: answers the frames of messages on standard input
+//! from zone files, up to the end of the input, on standard output. It opens no socket: another program connects one to its streams.
 //!
 //! A ZONE is `FILE`, whose origin is the owner of its first SOA, or `ORIGIN=FILE`; two of one origin are refused. With
 //! `--limits` each query comes after the limit of its answer. The zones behind `--transfers` are sent whole to whoever
-//! asks for them (AXFR, RFC 5936), and the others to nobody. With `--check` the program ends once the zones are loaded,
-//! and writes their origins.
+//! asks for them (AXFR, RFC 5936), those behind `--signed` to who signs with a key of the file of `--keys` (TSIG, RFC 8945), and the others to
+//! nobody. With keys, what is answered to a signed message is signed. With `--check` the program ends once the zones are loaded, and writes their
+//! origins.
 #![tactic(auto)]
 
 ghost use Rattle.std.specs.Prelude.{◌≤◌};
 
+mod keyed;
 mod reporting;
 mod serving;
 mod wanted;
 mod zones;
 
+use keyed::serve_by_keys;
 use reporting::tell;
 use serving::serve;
 use std::alloc::{AllocError, Global};
@@ -25,7 +28,7 @@ use zone_database::Zone;
 use zones::{load_zones, policies};
 
 const USAGE: &[u8] =
-    b"usage: zoned [--check] [--limits] [ZONE..] [--transfers ZONE..], a ZONE is FILE or ORIGIN=FILE\n";
+    b"usage: zoned [--check] [--limits] [--keys FILE] [ZONE..] [--transfers ZONE..] [--signed ZONE..], a ZONE is FILE or ORIGIN=FILE\n";
 
 fn main(rt: HostRuntime) -> ExitCode {
     let alloc = rt.alloc();
@@ -66,15 +69,28 @@ fn run(rt: &HostRuntime, alloc: Global, wanted: &Wanted<'_>) -> u8
             Err(_) => tell(&mut fault, b"write failed\n"),
         };
     }
-    serve(
-        alloc,
-        zones.as_slice(),
-        policies.as_slice(),
-        wanted.mode,
-        &mut input,
-        &mut output,
-        &mut fault,
-    )
+    match wanted.keys {
+        Some(file) => serve_by_keys(
+            rt,
+            alloc,
+            file,
+            zones,
+            policies.as_slice(),
+            wanted.mode,
+            &mut input,
+            &mut output,
+            &mut fault,
+        ),
+        None => serve(
+            alloc,
+            zones.as_slice(),
+            policies.as_slice(),
+            wanted.mode,
+            &mut input,
+            &mut output,
+            &mut fault,
+        ),
+    }
 }
 
 /// Writes the origins of zones, a line each.

@@ -4,7 +4,7 @@ ghost use Rattle.zone_server.specs.Serving.{Serves};
 ghost use Rattle.zone_server.specs.Stopping.{BreaksOff};
 ghost use Rattle.zoned.specs.Zones.{server_of};
 
-use crate::reporting::tell;
+use crate::reporting::tell_stop;
 use std::alloc::Global;
 use std::io::{Read, Write};
 use zone_database::{Zone, served};
@@ -32,9 +32,7 @@ pub fn serve<R: Read, W: Write, E: Write>(
 {
     match serve_zones(alloc, zones, policies, mode, input, output) {
         Ok(()) => 0,
-        Err(Stop::Memory) => tell(fault, b"out of memory\n"),
-        Err(Stop::Read(_)) => tell(fault, b"read failed\n"),
-        Err(Stop::Write(_)) => tell(fault, b"write failed\n"),
+        Err(stop) => tell_stop(fault, &stop),
     }
 }
 

@@ -4,8 +4,11 @@ use std::alloc::Global;
 use zone_proto::{Name, ProtoError};
 use zone_server::{Mode, TransferPolicy};
 
-/// The word behind which the zones stand that are transferred.
+/// The word behind which the zones stand that are sent to anybody.
 const TRANSFERS: &str = "--transfers";
+
+/// The word behind which those stand that are sent to who has a key.
+const SIGNED: &str = "--signed";
 
 /// A file that is served.
 #[derive(Drop)]
@@ -25,12 +28,14 @@ pub struct Wanted<'w> {
     pub is_check: bool,
     /// How frames stand on the input.
     pub mode: Mode,
+    /// The name of the file of keys, if requests may be signed.
+    pub keys: Option<&'w str>,
     /// The zones, one at least.
     pub zones: Vec<WantedZone<'w>>,
 }
 
-/// What words ask for: `--check` or nothing, `--limits` or nothing, and zones, before one of which `--transfers` may
-/// stand. None if they aren't that.
+/// What words ask for: `--check` or nothing, `--limits` or nothing, `--keys` and a file or nothing, and zones, before some of which `--transfers`
+/// or, with keys, `--signed` may stand. None if they aren't that.
 pub fn wanted_by(alloc: Global, words: &[String]) -> Result<Option<Wanted<'_>>, ProtoError> {
     let (is_check, words) = flag(words, "--check");
     let (is_limits, words) = flag(words, "--limits");
@@ -39,12 +44,22 @@ pub fn wanted_by(alloc: Global, words: &[String]) -> Result<Option<Wanted<'_>>, 
     } else {
         Mode::Stream
     };
-    let zones = wanted_zones(alloc, words)?;
+    let (keys, words) = keys_file(words);
+    let zones = wanted_zones(alloc, words, keys.is_some())?;
     Ok(zones.map(|zones| Wanted {
         is_check,
         mode,
+        keys,
         zones,
     }))
+}
+
+/// The file that words begin with behind `--keys`, if they do, and those behind it.
+fn keys_file(words: &[String]) -> (Option<&str>, &[String]) {
+    match words {
+        [first, file, others @ ..] if first.as_str() == "--keys" => (Some(file.as_str()), others),
+        _ => (None, words),
+    }
 }
 
 /// Whether words begin with this one, and those behind it.
@@ -55,18 +70,22 @@ fn flag<'w>(words: &'w [String], wanted: &str) -> (bool, &'w [String]) {
     }
 }
 
-/// The zones that words ask for, those behind `--transfers` for anybody to transfer. None if no zone is asked for, or
-/// none behind `--transfers`, or a word is no zone.
+/// The zones that words ask for, each with who may have it: those behind `--transfers` anybody, and those behind `--signed`, where there are
+/// keys, who signs with one. None if no zone is asked for, or none behind one of these, or a word is no zone.
 fn wanted_zones(
     alloc: Global,
     words: &[String],
+    has_keys: bool,
 ) -> Result<Option<Vec<WantedZone<'_>>>, ProtoError> {
     let mut zones = Vec::new(alloc);
     let mut policy = TransferPolicy::Deny;
     let mut is_due = true;
     for word in words {
-        if policy == TransferPolicy::Deny && word.as_str() == TRANSFERS {
-            policy = TransferPolicy::AllowAll;
+        if let Some(behind) = policy_behind(word.as_str(), has_keys) {
+            if is_due && policy != TransferPolicy::Deny {
+                return Ok(None);
+            }
+            policy = behind;
             is_due = true;
             continue;
         }
@@ -77,6 +96,17 @@ fn wanted_zones(
         is_due = false;
     }
     Ok(if is_due { None } else { Some(zones) })
+}
+
+/// Who may have the zones behind a word, if it says that.
+fn policy_behind(word: &str, has_keys: bool) -> Option<TransferPolicy> {
+    if word == TRANSFERS {
+        Some(TransferPolicy::AllowAll)
+    } else if word == SIGNED && has_keys {
+        Some(TransferPolicy::AllowSigned)
+    } else {
+        None
+    }
 }
 
 /// The zone that a word asks for: a file, or an origin and a file. None if the origin is no name, and where a word
