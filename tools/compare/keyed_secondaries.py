@@ -63,8 +63,9 @@ READS = secondaries.PRIMARY | {"named": 'zone "{origin}" {{ type primary; file "
 EXPIRING, BRIEF = "expiring.test.", "$TTL 60\n@ SOA ns h {serial} 1 1 4 60\n@ NS ns\nns A 192.0.2.53\n"
 
 OTHER_SECRET, OTHER_KEY = b"a secret that nobody else has...", "unknown.example."
-# Seconds in which a copy has to come, in which none may, and in which a server has read a zone file; and how wrong a clock is.
-COMES, REFUSES, READ, LATE = 30, 5, 5, 400
+# Seconds in which a copy has to come, in which none may, and in which a server has read a zone file; in which one that has expired has to come
+# back, as a secondary that has no copy waits for a minute; and how wrong a clock is.
+COMES, REFUSES, READ, RETURNS, LATE = 30, 5, 5, 150, 400
 # secondary.py with that clock.
 WRONG_CLOCK = f"import runpy, sys, time; now = time.time; time.time = lambda: now() + {LATE}; sys.argv = sys.argv[1:]; runpy.run_path(sys.argv[0], run_name='__main__')"
 
@@ -283,7 +284,7 @@ def wrong_of_expiry(program, daemon, folder):
         wrong += ["it doesn't expire"] if come(lambda: code_of(port, EXPIRING), lambda it: it == 2) != 2 else []
         wrong += ["it is sent though it has expired"] if secondaries.transferred(port, EXPIRING) else []
         with primary(2):
-            wrong += ["it doesn't come back"] if come(lambda: soa_serial(port, EXPIRING), lambda it: it == 2) != 2 or os.path.exists(f"{copy}.expired") else []
+            wrong += ["it doesn't come back"] if come(lambda: soa_serial(port, EXPIRING), lambda it: it == 2, RETURNS) != 2 or os.path.exists(f"{copy}.expired") else []
     return wrong
 
 
