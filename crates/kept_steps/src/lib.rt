@@ -4,7 +4,7 @@
 //! With each new version of the zone its step is put behind the others (`KeptSteps::push`), and where the zone is loaded anew, all are forgotten.
 //! `KeptSteps::steps_from` gives the steps that a secondary lacks, for `difference_groups` of `difference_messages`; where there are none,
 //! the zone goes out whole (section 4). By the laws of this crate and of `incremental_laws` a secondary takes them, and has the newest version then.
-//! `step_answers` does this with new versions, and writes the messages.
+//! `held_steps` keeps them for the zones of a server.
 #![tactic(auto)]
 
 mod counting;

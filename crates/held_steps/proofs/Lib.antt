@@ -1,0 +1,7 @@
+pub mod Noted
+pub mod Sealed
+pub mod Going
+pub mod Lacked
+pub mod Leading
+pub mod Granted
+pub mod Shortened
