@@ -63,18 +63,18 @@ pub fn begins_at(serial: u32, step: &ZoneStep) -> bool
     }
 }
 
-/// The serial of the first record of an SOA.
-fn serial_of(soa: &RecordSet) -> Option<u32>
+/// The serial of the first record of an SOA. Doesn't allocate.
+pub fn serial_of(soa: &RecordSet) -> Option<u32>
     ensures { result ≡ first_serial soa.now.records }
 {
     match soa.as_slice().first() {
-        Some(first) => serial_in(&first.rdata),
+        Some(first) => soa_serial(&first.rdata),
         None => None,
     }
 }
 
-/// The serial of the data of an SOA.
-fn serial_in(rdata: &RData) -> Option<u32>
+/// The serial of the data of an SOA; none of other data. Doesn't allocate.
+pub fn soa_serial(rdata: &RData) -> Option<u32>
     ensures { result ≡ soa_serial rdata.now }
 {
     match rdata {

@@ -2,7 +2,8 @@
 
 use crate::calls::Case;
 use difference_messages::{
-    DifferenceAnswer, DifferenceFault, DifferenceReply, difference_groups, reply_to, write_next,
+    DifferenceAnswer, DifferenceFault, DifferenceReply, difference_groups, reply_to, serial_of,
+    write_next,
 };
 use line_text::{RecordText, TextError, Words};
 use message_reading::{Query, ReadError, read_query};
@@ -38,22 +39,6 @@ pub fn newest_of(case: &Case) -> Result<u32, TextError> {
         .last()
         .ok_or(TextError::BadText)?;
     serial_of(&last.new_soa).ok_or(TextError::BadText)
-}
-
-/// The serial of an SOA.
-fn serial_of(soa: &RecordSet) -> Option<u32> {
-    match soa.as_slice().first() {
-        Some(first) => serial_in(&first.rdata),
-        None => None,
-    }
-}
-
-/// The serial of the data of an SOA.
-fn serial_in(rdata: &RData) -> Option<u32> {
-    match rdata {
-        RData::SOA(soa) => Some(soa.serial),
-        _ => None,
-    }
 }
 
 /// In how many messages the steps from a place on are sent, and what a secondary has then that had the version before them.

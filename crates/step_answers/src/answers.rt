@@ -10,7 +10,8 @@ use std::alloc::{AllocError, Global};
 use zone_proto::RecordSet;
 
 /// The messages of steps as the answer to a query for the changes of a zone, between two SOA records of the newest version (RFC 1995 section 4).
-/// `size` is how many octets the server takes in one datagram, for the OPT record, and `limit` how many a message may have.
+/// `size` is how many octets the server takes in one datagram, for the OPT record, and `limit` how many a message may have, which is 282 at
+/// least: the header, a question, and the OPT record have room.
 ///
 /// None where a record of the steps can't be sent, since no octets are its data, or no message has room for it: then the whole zone has to
 /// go out. Fails only for lack of memory.

@@ -1,13 +1,13 @@
 //! New versions of a zone.
 ghost use Rattle.std.specs.Prelude.{◌≡◌, OnErr, OnOk};
-ghost use Rattle.zone_proto.specs.Sets.{first_serial, soa_serial};
 ghost use Rattle.step_answers.specs.Noting.{is_to_newer, kept_behind, IsNoted};
 
+use difference_messages::serial_of;
 use kept_steps::KeptSteps;
 use shown_zones::{ZoneStep, step_between};
 use std::alloc::{AllocError, Global};
 use zone_map::RecordMap;
-use zone_proto::{LowerName, RData, RecordSet};
+use zone_proto::LowerName;
 use zone_secondary::is_newer;
 
 /// Puts the step from one version of a zone to the next one behind the steps that are kept, which lead to the first. Where the second isn't
@@ -54,25 +54,5 @@ fn is_to_newer(step: &ZoneStep) -> bool
     match (serial_of(&step.new_soa), serial_of(&step.old_soa)) {
         (Some(new), Some(old)) => is_newer(new, old),
         _ => false,
-    }
-}
-
-/// The serial of the first record of an SOA.
-fn serial_of(soa: &RecordSet) -> Option<u32>
-    ensures { result ≡ first_serial soa.now.records }
-{
-    match soa.as_slice().first() {
-        Some(first) => serial_in(&first.rdata),
-        None => None,
-    }
-}
-
-/// The serial of the data of an SOA.
-fn serial_in(rdata: &RData) -> Option<u32>
-    ensures { result ≡ soa_serial rdata.now }
-{
-    match rdata {
-        RData::SOA(soa) => Some(soa.serial),
-        _ => None,
     }
 }
