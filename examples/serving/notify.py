@@ -27,7 +27,10 @@ class Secondary:
         origin, _, there = word.partition("=")
         address, _, port = there.partition("@")
         self.origin, self.name, self.sent, self.due = origin.rstrip(".").lower() or ".", word, 0, None
-        family, _, _, _, self.peer = socket.getaddrinfo(address, int(port or 53), type=socket.SOCK_DGRAM, flags=socket.AI_NUMERICHOST)[0]
+        try:
+            family, _, _, _, self.peer = socket.getaddrinfo(address, int(port or 53), type=socket.SOCK_DGRAM, flags=socket.AI_NUMERICHOST)[0]
+        except (OSError, ValueError, OverflowError) as error:
+            raise argparse.ArgumentTypeError(f"{word} has no address that is one") from error
         self.stream = socket.socket(family, socket.SOCK_DGRAM)
         self.stream.connect(self.peer)
 
@@ -65,12 +68,15 @@ def say(secondary, what):
 def serials(path):
     """The serials of the zones that the server has; none if it doesn't run."""
     text = b""
-    with contextlib.suppress(OSError), socket.socket(socket.AF_UNIX) as stream:
-        stream.settimeout(2)
-        stream.connect(path)
-        stream.sendall(b"zones\n")
-        while more := stream.recv(65536):
-            text += more
+    try:
+        with socket.socket(socket.AF_UNIX) as stream:
+            stream.settimeout(2)
+            stream.connect(path)
+            stream.sendall(b"zones\n")
+            while more := stream.recv(65536):
+                text += more
+    except OSError:   # (an answer that broke off could end within a serial)
+        return {}
     return {words[0]: words[1] for words in map(str.split, text.decode(errors="replace").splitlines()[1:]) if words[1] != "-"}
 
 

@@ -163,8 +163,7 @@ class Secondary:
                     self.take_notify(listener)
                 except OSError as error:
                     log(error)
-            if not ready:
-                self.tell(b"t")
+            self.tell(b"t")   # (also where messages never end to come: the zone expires nevertheless)
 
     def take_notify(self, listener):
         """Takes what comes from the primary's address, and answers it if it is a NOTIFY for the zone."""

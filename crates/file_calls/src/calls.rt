@@ -13,7 +13,8 @@ use included_texts::{KeptFile, KeptTexts};
 use std::alloc::Global;
 use std::{mem, str};
 
-/// Keeps the text of the file of a name, in place of what is kept of it.
+/// Keeps the text of the file of a name, in place of what is kept of it. Refused by `BadFileName` where the name isn't UTF-8, and by
+/// `NoMemory`; then all is as it was.
 pub fn put(alloc: Global, files: &mut FilesHandle, name: &[u8], text: &[u8]) -> FileOutcome
     ensures { KeepsFile name.now (Ok text.now) files.old.held result files.new.held }
 {
@@ -23,7 +24,7 @@ pub fn put(alloc: Global, files: &mut FilesHandle, name: &[u8], text: &[u8]) -> 
     }
 }
 
-/// Keeps of the file of a name that it can't be read, and why, by its number, in place of what is kept of it.
+/// Keeps of the file of a name that it can't be read, and why, by its number, in place of what is kept of it. Refused as `put` is.
 pub fn lack(alloc: Global, files: &mut FilesHandle, name: &[u8], why: u32) -> FileOutcome
     ensures { KeepsFile name.now (Err (lack_of why)) files.old.held result files.new.held }
 {
@@ -97,7 +98,8 @@ pub(crate) fn held(alloc: Global, files: &mut FilesHandle) -> Option<Box<KeptTex
     }
 }
 
-/// Writes the first name of those that are wanted, and takes it off them.
+/// Writes the first name of those that are wanted, and takes it off them. `NoFile` says that none is. Refused by `NoRoom` where the room is
+/// too short for it: how many octets it has is told, and it is wanted still.
 #[tactic(auto, using(crate::proofs::Texts::gives_held, crate::proofs::Texts::gives_empty, crate::proofs::Texts::same_held, crate::proofs::Texts::same_empty))]
 pub fn next(
     alloc: Global,

@@ -25,7 +25,9 @@ use zone_proto::Name;
 use zone_texts::{Reading, Sources};
 
 /// Puts the zone of an origin that a file makes, with those that it includes (RFC 1035 section 5.1), in place of the one of this origin, or
-/// among the others, and writes what is reported about the files into the room.
+/// among the others, and writes what is reported about the files into the room. `WantsFiles` says that files are included of which nothing is
+/// kept. Refused by `BadName` where the origin isn't a name, by `BadText` where the files make no zone, by `BadFileName` where the name of the
+/// file isn't UTF-8, by `Closed` without zones, and by `NoMemory`; then the zones are as they were.
 pub fn load(
     alloc: Global,
     zones: &mut DatabaseHandle,

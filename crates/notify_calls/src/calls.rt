@@ -9,7 +9,8 @@ use std::alloc::Global;
 use zone_database::{Outcome, give, origin_of};
 
 /// Writes the NOTIFY for the zone of an origin into the room, if that is long enough, and how many octets it has: with this identifier, of
-/// which the lowest 16 bits count, and without a hint of the serial (RFC 1996 section 3).
+/// which the lowest 16 bits count, and without a hint of the serial (RFC 1996 section 3). Refused by `BadName` where the origin isn't a name,
+/// by `NoRoom` where the room is too short, and by `NoMemory`; then nothing is written.
 #[tactic(auto, using(crate::proofs::NotifyFacts::given))]
 pub fn write(
     alloc: Global,

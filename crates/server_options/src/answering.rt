@@ -22,7 +22,7 @@ use std::alloc::{AllocError, Global};
 ///
 /// - COOKIE, where the query has one and the server has secrets: the client cookie with a new server cookie (RFC 7873, RFC 9018). A
 ///   malformed one gets FORMERR, by a header alone.
-/// - where the server requires cookies, BADCOOKIE with the COOKIE option alone, over UDP, where that of the query has no valid server cookie.
+/// - where the server wants cookies, BADCOOKIE with the COOKIE option alone, over UDP, where that of the query has no valid server cookie.
 /// - an extended error (RFC 8914) where the code is REFUSED: 20, Not Authoritative; and where it is SERVFAIL: 0, Other.
 /// - NSID, where the query asks for it and the server has an identifier (RFC 5001).
 ///
