@@ -27,6 +27,7 @@ pub mod PrefixesBack
 pub mod RecordsBack
 pub mod RowTexts
 pub mod RowsBack
+pub mod SetTexts
 pub mod SpacedWords
 pub mod StringFacts
 pub mod TypeTexts

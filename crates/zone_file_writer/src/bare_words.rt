@@ -2,6 +2,7 @@
 ghost use Rattle.std.specs.Prelude.{◌≡◌, Some, false};
 ghost use Rattle.zone_file_writer.specs.BareWords.{are_of_word, goes_on, is_bare, word_octet, word_octets};
 
+use crate::octets::NumberedOctet;
 use std::fmt;
 
 /// Whether an octet goes on with a word that stands bare.
@@ -63,9 +64,6 @@ impl fmt::Display for WordOctet {
         if goes_on(octet) && octet <= b'~' && octet != b'\\' {
             return write!(f, "{}", octet as char);
         }
-        let hundreds = (b'0' + octet / 100) as char;
-        let tens = (b'0' + octet / 10 % 10) as char;
-        let ones = (b'0' + octet % 10) as char;
-        write!(f, "\\{hundreds}{tens}{ones}")
+        write!(f, "{}", NumberedOctet(octet))
     }
 }

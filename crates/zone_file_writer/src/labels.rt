@@ -4,6 +4,7 @@ ghost use Rattle.zone_proto.specs.Text.{is_plain, label_text, octet_text};
 ghost use Rattle.zone_file_writer.specs.Labels.{is_end, is_name, is_wire_form, part_text, parts_text};
 ghost use Rattle.zone_file_writer.specs.Strings.{strings_of};
 
+use crate::octets::NumberedOctet;
 use crate::strings::split_string;
 use std::fmt;
 
@@ -103,10 +104,7 @@ impl fmt::Display for PlainOctet {
         if is_plain(octet) {
             return write!(f, "{}", octet as char);
         }
-        let hundreds = (b'0' + octet / 100) as char;
-        let tens = (b'0' + octet / 10 % 10) as char;
-        let ones = (b'0' + octet % 10) as char;
-        write!(f, "\\{hundreds}{tens}{ones}")
+        write!(f, "{}", NumberedOctet(octet))
     }
 }
 

@@ -19,6 +19,7 @@ mod parameters;
 mod prefixes;
 mod record;
 mod rows;
+mod sets;
 mod signing;
 mod start_of_authority;
 mod strings;
@@ -26,3 +27,4 @@ mod type_lists;
 mod types;
 
 pub use record::MasterText;
+pub use sets::MasterSetText;

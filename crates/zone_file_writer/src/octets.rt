@@ -1,5 +1,6 @@
-//! Octets in hex and base64, and as the data of any type.
-ghost use Rattle.std.specs.Prelude.{◌≡◌, ◌<◌, Some};
+//! Octets in hex, in base64, by their numbers, and as the data of any type.
+ghost use Rattle.std.specs.Prelude.{◌≡◌, ◌<◌, ◌∷◌, Some};
+ghost use Rattle.zone_proto.specs.TextForm.{backslash, three_digits};
 ghost use Rattle.base64.specs.Engines.{standard};
 ghost use Rattle.base64.specs.GeneralPurpose.{encode_of};
 ghost use Rattle.zone_file_writer.specs.Others.{base64_text, hex_digit, hex_digits, hex_octet, octets_words};
@@ -52,6 +53,22 @@ impl fmt::Display for HexOctet {
         let high = hex_digit(self.0 / 16);
         let low = hex_digit(self.0 % 16);
         write!(f, "{high}{low}")
+    }
+}
+
+/// An octet by its number, as it is in names and strings: `\` and three digits (RFC 1035 section 5.1).
+#[derive(Drop)]
+pub(crate) struct NumberedOctet(pub u8);
+
+impl fmt::Display for NumberedOctet {
+    ghost output = { λ o. Some (backslash ∷ three_digits o.0) };
+
+    fn fmt<W: fmt::Write>(&self, f: &mut fmt::Formatter<W>) -> fmt::Result {
+        let octet = self.0;
+        let hundreds = (b'0' + octet / 100) as char;
+        let tens = (b'0' + octet / 10 % 10) as char;
+        let ones = (b'0' + octet % 10) as char;
+        write!(f, "\\{hundreds}{tens}{ones}")
     }
 }
 

@@ -5,6 +5,7 @@ ghost use Rattle.zone_file_writer.specs.Others.{string_word};
 ghost use Rattle.zone_file_writer.specs.Rows.{all_strings};
 ghost use Rattle.zone_file_writer.specs.Strings.{escaped, escaped_octet, further_text, quoted_text, strings_of};
 
+use crate::octets::NumberedOctet;
 use std::fmt;
 
 /// Octets in quotes.
@@ -50,10 +51,7 @@ impl fmt::Display for EscapedOctet {
         if octet >= b' ' && octet <= b'~' {
             return write!(f, "{}", octet as char);
         }
-        let hundreds = (b'0' + octet / 100) as char;
-        let tens = (b'0' + octet / 10 % 10) as char;
-        let ones = (b'0' + octet % 10) as char;
-        write!(f, "\\{hundreds}{tens}{ones}")
+        write!(f, "{}", NumberedOctet(octet))
     }
 }
 
