@@ -11,4 +11,4 @@ mod zone_text;
 pub use digests::{DigestAlgorithm, zone_digest, zonemd_data};
 pub use putting::put_digest;
 pub use verifying::{DigestFault, digest_fault};
-pub use zone_text::push_zone;
+pub use zone_text::{ZONEMD, push_zone};

@@ -13,7 +13,7 @@ use zone_planning::PlanFault;
 use zone_proto::{LowerName, RecordSet, RecordType, RrKey};
 
 /// The type of a zone's digest (RFC 8976 section 2).
-pub(crate) const ZONEMD: RecordType = RecordType(63);
+pub const ZONEMD: RecordType = RecordType(63);
 
 /// Appends the records of the zone of an origin, in canonical form and order, each once, without the ZONEMD records of the origin and
 /// their signatures (RFC 8976 section 3.3.1).

@@ -2,20 +2,17 @@
 
 use crate::keys::read_keys;
 use crate::reading::read_whole_zone;
-use crate::reporting::refuse;
 use crate::signing::{Planned, apex_of, request_of};
 use crate::wanted::Wanted;
+use host_texts::refuse;
 use std::alloc::Global;
 use std::io::Write;
 use zone_builder::Loaded;
-use zone_digest::{DigestAlgorithm, put_digest};
+use zone_digest::{DigestAlgorithm, ZONEMD, put_digest};
 use zone_map::RecordMap;
 use zone_planner::{plan_signers, planned_by_flags};
 use zone_planning::{Plan, PlanFault, PlanSigner};
 use zone_proto::{DNSKEY, LowerName, ProtoError, RecordType, RrKey};
-
-/// The type of the digest of a zone.
-const ZONEMD: RecordType = RecordType(63);
 
 /// Puts the ZONEMD record of a zone into it, before it is signed, so that its denials list the type (RFC 8976 section 3.1). None if that
 /// fails, which is reported.

@@ -2,8 +2,8 @@
 
 use crate::keys::read_keys;
 use crate::reading::read_zone_of;
-use crate::reporting::refuse;
 use crate::wanted::Wanted;
+use host_texts::refuse;
 use std::io;
 use std::io::{BufWriter, Write};
 use zone_file_writer::MasterText;

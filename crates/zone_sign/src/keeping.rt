@@ -3,12 +3,11 @@ ghost use Rattle.std.specs.Prelude.{◌≡◌, IfSome};
 ghost use Rattle.zone_map.specs.Zones.{IsZone};
 
 use crate::reading::read_signed_zone;
-use crate::reporting::refuse;
 use crate::signing::Stop;
 use crate::wanted::Wanted;
+use host_texts::{read_file, refuse};
 use std::alloc::Global;
-use std::fs;
-use std::io::{Read, Write};
+use std::io::Write;
 use zone_keeping::{Span, keep, push_standing, push_standing_end};
 use zone_map::RecordMap;
 use zone_planning::{Plan, read_signatures};
@@ -64,13 +63,8 @@ fn read_wrong<E: Write>(
     let Some(file) = wanted.wrong else {
         return Some(Vec::new(alloc));
     };
-    let Ok(mut input) = fs::open(rt, file) else {
-        return refuse(fault, file, &"the file can't be read");
-    };
     let mut octets = Vec::new(alloc);
-    let Ok(_) = input.read_to_end(&mut octets) else {
-        return refuse(fault, file, &"read failed");
-    };
+    read_file(rt, file, &mut octets, fault)?;
     match read_signatures(alloc, octets.as_slice()) {
         Ok(mut signatures) => {
             signatures.sort_unstable();

@@ -1,9 +1,8 @@
 //! The public keys of a zone, read from their files.
 
-use crate::reporting::refuse;
 use crate::wanted::Wanted;
-use std::fs;
-use std::io::{Read, Write};
+use host_texts::{read_file, refuse};
+use std::io::Write;
 use zone_file::{ZoneError, read_zone_text};
 use zone_proto::{DNSKEY, LowerName, Name, RData, Record};
 
@@ -33,15 +32,10 @@ fn read_key<E: Write>(
     fault: &mut E,
 ) -> Option<()> {
     let alloc = rt.alloc();
-    let Ok(mut input) = fs::open(rt, file) else {
-        return refuse(fault, file, &"the file can't be read");
-    };
     let Ok(mut text) = Vec::from_slice(alloc, BEFORE_KEYS) else {
         return refuse(fault, file, &"out of memory");
     };
-    let Ok(_) = input.read_to_end(&mut text) else {
-        return refuse(fault, file, &"read failed");
-    };
+    read_file(rt, file, &mut text, fault)?;
     let records = match read_zone_text(alloc, Name::root(alloc), text.as_slice()) {
         Ok(records) => records,
         Err(error) => return refuse_text(fault, file, error),

@@ -20,34 +20,23 @@ mod digests;
 mod keeping;
 mod keys;
 mod reading;
-mod reporting;
 mod signatures;
 mod signing;
 mod wanted;
 
-use reporting::tell;
-use std::alloc::AllocError;
-use std::io::Write;
+use host_texts::{arguments, tell};
 use std::process::ExitCode;
-use std::{env, io};
 use wanted::{Mode, Wanted, wanted_by};
 
 const USAGE: &[u8] =
     b"usage: zone_sign plan|sign|standing|signatures|ds FILE [--origin NAME] --from N --until N [--jitter N] [--key-ttl N] [--cds] [--zonemd | --digest] [--nsec3 SALT ITERATIONS [--opt-out]] [--old FILE --again N [--wrong FILE]] --key FILE..\n";
 
 fn main(rt: HostRuntime) -> ExitCode {
-    let alloc = rt.alloc();
-    let args = match env::args(&rt) {
-        Ok(words) => words.skip(1).collect::<Vec<String>>(alloc),
-        // Arguments that aren't text are as wrong as none.
-        Err(e) if e.kind() == io::ErrorKind::InvalidData => Ok(Vec::new(alloc)),
-        Err(_) => Err(AllocError),
-    };
     let mut fault = rt.stderr();
-    let Ok(args) = args else {
+    let Ok(args) = arguments(&rt) else {
         return ExitCode::from(tell(&mut fault, b"out of memory\n"));
     };
-    let status = match wanted_by(alloc, args.as_slice()) {
+    let status = match wanted_by(rt.alloc(), args.as_slice()) {
         Ok(Some(wanted)) => run(&rt, &wanted),
         Ok(None) => tell(&mut fault, USAGE),
         Err(_) => tell(&mut fault, b"out of memory\n"),

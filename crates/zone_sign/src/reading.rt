@@ -1,26 +1,20 @@
 //! The records of a zone, read from its file and from those that it includes (RFC 1035 section 5.1).
-ghost use Rattle.std.specs.Prelude.{◌≡◌, ℕ, List, Some, IfOk, IfSome};
+ghost use Rattle.std.specs.Prelude.{◌≡◌, IfOk, IfSome};
 ghost use Rattle.std.specs.List.{};
 ghost use Rattle.zone_map.specs.Zones.{IsZone};
 ghost use Rattle.zone_sign.specs.Zones.{given_of, unsigned};
-ghost use Rattle.zone_texts.specs.Inclusions.{Files, records_of};
-ghost use Rattle.zone_texts.specs.Readings.{IsReadOf};
 
-use crate::reporting::{refuse, refuse_at, refuse_input};
 use crate::wanted::Wanted;
 use file_origins::{first_origin, zone_origin};
-use host_texts::HostTexts;
+use host_texts::{HostTexts, read_faultless, refuse, refuse_at, refuse_unread};
 use std::alloc::{AllocError, Global};
 use std::fs;
-use std::io::{Read, Write};
+use std::io::Write;
 use zone_builder::{GivenRecord, LoadFault, Loaded, load};
 use zone_file::PlacedRecord;
 use zone_planner::is_made_anew;
 use zone_proto::{LowerName, Name, RData, Record, Seq};
-use zone_texts::{FaultLines, FilesError, Reading, Sources, Texts, read_files};
-
-/// How many faults of a file are reported.
-const MOST_TOLD: usize = 20;
+use zone_texts::{Reading, Sources};
 
 /// The zone in the file, without its signatures, denials and keys. None if there is none, which is reported.
 pub fn read_zone_of<E: Write>(
@@ -30,16 +24,12 @@ pub fn read_zone_of<E: Write>(
 ) -> Option<Loaded>
     ensures { IfSome result (λ loaded. IsZone loaded.records) }
 {
-    let alloc = rt.alloc();
-    let Ok(origin) = first_origin(alloc, &wanted.origin) else {
-        return refuse(fault, wanted.file, &"out of memory");
-    };
     let Reading {
         records,
         sources,
         ..
-    } = read_records(rt, wanted.file, origin, fault)?;
-    load_unsigned(alloc, wanted, &sources, records, fault)
+    } = read_wanted(rt, wanted, fault)?;
+    load_unsigned(rt.alloc(), wanted, &sources, records, fault)
 }
 
 /// The zone in the file, with its signatures, denials and keys. None if there is none, which is reported.
@@ -51,14 +41,11 @@ pub fn read_whole_zone<E: Write>(
     ensures { IfSome result (λ loaded. IsZone loaded.records) }
 {
     let alloc = rt.alloc();
-    let Ok(first) = first_origin(alloc, &wanted.origin) else {
-        return refuse(fault, wanted.file, &"out of memory");
-    };
     let Reading {
         records,
         sources,
         ..
-    } = read_records(rt, wanted.file, first, fault)?;
+    } = read_wanted(rt, wanted, fault)?;
     let Ok(origin) = zone_origin(alloc, &wanted.origin, records.as_slice()) else {
         return refuse(fault, wanted.file, &"out of memory");
     };
@@ -97,6 +84,14 @@ pub fn read_signed_zone<E: Write>(
     load_given(alloc, &sources, Name::from(origin), given, fault)
 }
 
+/// The records in the file and in those that it includes. None if they can't be read, which is reported.
+fn read_wanted<E: Write>(rt: &HostRuntime, wanted: &Wanted<'_>, fault: &mut E) -> Option<Reading> {
+    match first_origin(rt.alloc(), &wanted.origin) {
+        Ok(origin) => read_records(rt, wanted.file, origin, fault),
+        Err(_) => refuse(fault, wanted.file, &"out of memory"),
+    }
+}
+
 /// The records in a file and in those that it includes, at whose beginning the origin is this. None if they can't be read, which is
 /// reported.
 fn read_records<E: Write>(
@@ -107,45 +102,9 @@ fn read_records<E: Write>(
 ) -> Option<Reading> {
     let mut texts = HostTexts { rt };
     match fs::open(rt, file) {
-        Ok(mut input) => read_input(rt.alloc(), file, origin, &mut input, &mut texts, fault),
-        Err(e) => refuse_input(fault, file, e.kind()),
+        Ok(mut input) => read_faultless(rt.alloc(), origin, file, &mut input, &mut texts, fault),
+        Err(e) => refuse_unread(fault, file, e.kind()),
     }
-}
-
-/// The same, where the file is read from an input. Where it is known what that has left, as of a slice, that is the file's text.
-fn read_input<R: Read, T: Texts, E: Write>(
-    alloc: Global,
-    file: &str,
-    origin: Name,
-    input: &mut R,
-    texts: &mut T,
-    fault: &mut E,
-) -> Option<Reading>
-    ensures alone { IfSome result (λ reading. (text : List ℕ) → R.remaining input.old ≡ Some text →
-        IsReadOf origin text reading.records.items) }
-    // Where files are known, with that text, so it is with those that it includes.
-    ensures included { IfSome result (λ reading.
-        (text : List ℕ) → R.remaining input.old ≡ Some text →
-        (files : Files) → T.known texts.old ≡ Some files → files.text file.now ≡ text →
-        records_of files origin file.now ≡ Some reading.records.items) }
-{
-    match read_files(alloc, origin, file, input, texts, MOST_TOLD) {
-        Ok(reading) => {
-            if !reading.is_faultless() {
-                report_faults(&reading, fault);
-                return None;
-            }
-            Some(reading)
-        }
-        Err(FilesError::Memory) => refuse(fault, file, &"out of memory"),
-        Err(FilesError::Input(kind)) => refuse_input(fault, file, kind),
-    }
-}
-
-/// Reports the faults of the files that were read, and how many there are besides.
-fn report_faults<E: Write>(reading: &Reading, fault: &mut E) {
-    let lines = FaultLines { reading, hint: "" };
-    let _ = write!(fault, "{lines}");
 }
 
 /// The zone of the records without those that are made anew. None if they make no zone, which is reported.

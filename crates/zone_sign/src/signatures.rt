@@ -2,9 +2,9 @@
 
 use crate::keeping::write_standing;
 use crate::reading::read_whole_zone;
-use crate::reporting::refuse;
 use crate::signing::written;
 use crate::wanted::Wanted;
+use host_texts::refuse;
 use std::io;
 use std::io::{BufWriter, Write};
 use zone_map::RecordMap;

@@ -6,17 +6,17 @@ use crate::digesting::{place_digest, plan_digest};
 use crate::keeping::{keep_standing, write_standing};
 use crate::keys::read_keys;
 use crate::reading::read_zone_of;
-use crate::reporting::refuse;
 use crate::wanted::{Mode, Wanted, ZoneDigest};
+use host_texts::refuse;
 use std::alloc::{AllocError, Global};
 use std::io;
 use std::io::{BufWriter, Read, Write};
 use zone_builder::Loaded;
-use zone_file_writer::MasterText;
+use zone_file_writer::MasterSetText;
 use zone_map::RecordMap;
 use zone_planner::{Request, make_plan, planned_by_flags};
 use zone_planning::{Plan, PlanFault, finish, push_end, push_frames, read_signatures};
-use zone_proto::{DNSKEY, LowerName, ProtoError, RecordSet, RecordType, RrKey};
+use zone_proto::{DNSKEY, LowerName, ProtoError, RecordType, RrKey};
 
 /// Writes what has to be signed, and unless only that is wanted reads the signatures and writes the zone. None if that fails, which is
 /// reported.
@@ -193,20 +193,12 @@ fn write_zone<W: Write>(
     records: &RecordMap,
 ) -> io::Result<()> {
     if let Some(set) = records.get(apex) {
-        write_set(alloc, output, set)?;
+        write!(output, "{}", MasterSetText(alloc, set))?;
     }
     for (key, set) in records.iter() {
         if !apex.same_as(key) {
-            write_set(alloc, output, set)?;
+            write!(output, "{}", MasterSetText(alloc, set))?;
         }
     }
     output.flush()
-}
-
-/// Writes the records of a set and its signatures, a line each.
-fn write_set<W: Write>(alloc: Global, output: &mut W, set: &RecordSet) -> io::Result<()> {
-    for record in set.records(true) {
-        write!(output, "{}\n", MasterText(alloc, record))?;
-    }
-    Ok(())
 }
