@@ -1,5 +1,5 @@
 -- What comes of an update of one of the zones of a database, from what the steps of the way say
-use Rattle.std.proofs.Common.{◌≡◌, ◌∙◌, ℕ, Bool, true, false, cond, List, inl, inr, refl, sym, ap, subst, Ok, Err, Result}
+use Rattle.std.proofs.Common.{◌≡◌, ◌≤◌, ◌<◌, ◌∙◌, ℕ, Bool, true, false, cond, List, length, inl, inr, refl, sym, ap, subst, Ok, Err, Result}
 use Rattle.std.proofs.lemmas.Cmp.{eq_by_cmp_equiv}
 use Rattle.std.specs.Bool.{MatchBool}
 use Rattle.std.specs.List.{find}
@@ -14,10 +14,9 @@ use Rattle.zone_proto.proofs.Names.Tree.{name_order}
 use Rattle.zone_map.specs.Zones.{Sets}
 use Rattle.update_policy.specs.declared.rule.Rule.{Rule}
 use Rattle.zone_update.specs.declared.refusal.Refusal.{Refusal}
-use Rattle.zone_update.specs.declared.refusal.Refusal.TheVariants.{NotAuth, Refused}
+use Rattle.zone_update.specs.declared.refusal.Refusal.TheVariants.{Memory, NotAuth, Refused}
 use Rattle.zone_update.specs.Entries.{Gives, IsRefusal}
 use Rattle.update_message.specs.Updates.{parts_of, update_of, Parts}
-use Rattle.update_message.specs.declared.message.UpdateError.{UpdateError}
 use Rattle.update_message.specs.declared.message.UpdateMessage.{UpdateMessage}
 use Rattle.update_permission.specs.Permissions.{updated_if_permitted}
 use Rattle.update_answers.specs.Replies.{is_zone}
@@ -27,10 +26,13 @@ use Rattle.zone_database.specs.Zones.{zone_of_records}
 use Rattle.held_updates.specs.declared.access.UpdateAccess.{UpdateAccess}
 use Rattle.held_updates.specs.declared.answering.UpdateAnswer.{UpdateAnswer}
 use Rattle.held_updates.specs.declared.answering.UpdateAnswer.TheVariants as answer
-use Rattle.held_updates.specs.declared.planning.Planned.{Planned}
-use Rattle.held_updates.specs.declared.planning.Planned.TheVariants as planned
+use Rattle.held_updates.specs.declared.planned.PlannedUpdate.{PlannedUpdate}
+use Rattle.held_updates.specs.declared.planned.PlannedUpdate.TheVariants as planned
+use Rattle.held_updates.specs.declared.planned.UpdatedZone.{UpdatedZone}
 use Rattle.held_updates.specs.Tables.{rules_for}
-use Rattle.held_updates.specs.Answering.{is_signed, is_update, outcome_among, outcome_in, signing_of, updated_in, Answers, AnswersAs, AnswersBy, AnswersSigned, AnswersUnsigned, HasRoom, IsLeft, Plans, RepliesTo, Settles}
+use Rattle.held_updates.specs.Answering.{AnswersUpdate, Comes}
+use Rattle.held_updates.specs.Journaling.{IfUpdated, IsJournaled, IsPlanJournaled}
+use Rattle.held_updates.specs.Planning.{is_signed, is_update, outcome_among, outcome_in, signing_of, updated_in, Plans, PlansAs, PlansBy, PlansSigned, PlansUpdate, RepliesTo}
 
 -- ---- the zone of an update
 
@@ -59,53 +61,56 @@ module _ (access : UpdateAccess) (key : Option Name) (zs : List Zone) (asked : U
       ∙ ap (λ (rs : List Rule). outcome_in rs key (lower p.zone) zone p) (table ∙ ap (λ (n : Name). rules_for n access.tables.entries) o)
       ∙ ap (λ (z : Option Zone). outcome_in (rules_for (lower p.zone) access.tables.entries) key (lower p.zone) z p) (found ∙ ap (λ (n : Name). find (begins_at n) zs) o)
 
-  pub planned_of : (made : Result Sets Refusal) (x : Planned) (octets : List ℕ) → origin ≡ lower asked.zone → zone ≡ find (begins_at origin) zs
+  pub planned_of : (made : Result Sets Refusal) (x : PlannedUpdate) (octets : List ℕ) → origin ≡ lower asked.zone → zone ≡ find (begins_at origin) zs
       → rules ≡ rules_for origin access.tables.entries → Gives made (updated_in rules key origin zone asked.update.prerequisites.items asked.update.changes.items)
       → RepliesTo made origin asked.header asked.has_extension x octets → Plans (outcome_among access key zs) (Ok p) x octets
-  planned_of (Ok after) (planned.Updated z) octets o found table gives (text, is) =
-      let its : z.origin ≡ origin = ap (λ (y : Zone). y.origin) is in
+  planned_of (Ok after) (planned.Updated u) octets o found table gives (text, is) =
+      let its : u.zone.origin ≡ origin = ap (λ (y : Zone). y.origin) is in
       (after, (sym (among o found table) ∙ gives, text), its ∙ o, is ∙ ap (λ (n : Name). zone_of_records n after) (sym its))
-  planned_of (Ok after) planned.Refused octets o found table gives replied = absurd replied
+  planned_of (Ok after) planned.Refused octets o found table gives text = (Memory, tt, text)
   planned_of (Ok after) planned.Other octets o found table gives replied = absurd replied
   planned_of (Err e) planned.Refused octets o found table gives text = (e, subst (λ (r : Result Sets Refusal). IsRefusal e r) (among o found table) gives, text)
-  planned_of (Err e) (planned.Updated z) octets o found table gives replied = absurd replied
+  planned_of (Err e) (planned.Updated u) octets o found table gives replied = absurd replied
   planned_of (Err e) planned.Other octets o found table gives replied = absurd replied
+
+  -- and so is what the journal of the zone gets
+  pub journaled_in : (is_kept : Bool) (made : Result Sets Refusal) (x : PlannedUpdate) (octets : List ℕ) → zone ≡ find (begins_at origin) zs → RepliesTo made origin asked.header asked.has_extension x octets
+      → IfUpdated (IsJournaled is_kept zone) x → IsPlanJournaled is_kept zs x
+  journaled_in is_kept (Ok after) (planned.Updated u) octets found (text, is) framed =
+      subst (λ (o : Option Zone). IsJournaled is_kept o u) (found ∙ ap (λ (n : Name). find (begins_at n) zs) (sym (ap (λ (y : Zone). y.origin) is))) framed
+  journaled_in is_kept (Err e) (planned.Updated u) octets found replied framed = absurd replied
+  journaled_in is_kept made planned.Refused octets found replied framed = tt
+  journaled_in is_kept made planned.Other octets found replied framed = tt
 
 -- ---- what was planned comes
 
-settled : (outcome : Parts → Result Sets Refusal) (read : Result Parts UpdateError) (zs : List Zone) (x : Planned) (a : UpdateAnswer) (octets : List ℕ) (new : List Zone)
-    → Plans outcome read x octets → Settles x zs a new → Answers outcome read zs a octets new
-settled outcome read zs planned.Other a octets new plans (is, same) = subst (λ (b : UpdateAnswer). Answers outcome read zs b octets new) (sym is) (plans, same)
-settled outcome read zs planned.Refused a octets new plans (is, same) = subst (λ (b : UpdateAnswer). Answers outcome read zs b octets new) (sym is) (plans, same)
-settled outcome read zs (planned.Updated z) a octets new (after, reply, its, made) (inl (is, put)) =
-    subst (λ (b : UpdateAnswer). Answers outcome read zs b octets new) (sym is) (after, reply, its, put ∙ ap (λ (y : Zone). with_zone y zs) made)
-settled outcome read zs (planned.Updated z) a octets new (after, reply, its, made) (inr (is, same)) =
-    subst (λ (b : UpdateAnswer). Answers outcome read zs b octets new) (sym is) (after, reply, same)
+pub signed : (access : UpdateAccess) (now : ℕ) (t : Tsig) (k : Key) (message : List ℕ) (zs : List Zone) (x : PlannedUpdate) (plain octets : List ℕ)
+    → Plans (outcome_among access (Some k.name) zs) (update_of message) x plain → octets ≡ signed_message k now (signing_of t) plain → PlansSigned access now t k message zs x octets
+signed access now t k message zs x plain octets plans text = (plain, plans, text)
 
-pub unsigned : (access : UpdateAccess) (room : ℕ) (message : List ℕ) (zs new : List Zone) (x : Planned) (a : UpdateAnswer) (octets : List ℕ)
-    → Plans (outcome_among access None zs) (update_of message) x octets → Settles x zs a new → HasRoom room a octets → AnswersUnsigned access room message zs a octets new
-unsigned access room message zs new x a octets plans settles fits = (settled (outcome_among access None zs) (update_of message) zs x a octets new plans settles, fits)
+module _ (room : ℕ) (octets : List ℕ) (u : UpdatedZone) (zs : List Zone) where
+  pub put_comes : (origin : Name) (new : List Zone) → length octets ≤ room → origin ≡ u.zone.origin → new ≡ with_zone u.zone zs → Comes room octets (planned.Updated u) zs (answer.Updated origin) new
+  put_comes origin new fits o put = inl (fits, ap (λ (n : Name). answer.Updated n) o, put)
 
-pub signed : (access : UpdateAccess) (now room : ℕ) (t : Tsig) (k : Key) (message : List ℕ) (zs new : List Zone) (x : Planned) (a : UpdateAnswer) (plain octets : List ℕ)
-    → Plans (outcome_among access (Some k.name) zs) (update_of message) x plain → octets ≡ signed_message k now (signing_of t) plain → Settles x zs a new → HasRoom room a octets
-    → AnswersSigned access now room t k message zs a octets new
-signed access now room t k message zs new x a plain octets plans text settles fits =
-    (plain, settled (outcome_among access (Some k.name) zs) (update_of message) zs x a plain new plans settles, text, fits)
+  pub long_comes : room < length octets → Comes room octets (planned.Updated u) zs answer.TooLong zs
+  long_comes long = inr (long, refl, refl)
 
-pub put_settles : (z : Zone) (origin : Name) (zs new : List Zone) → origin ≡ z.origin → new ≡ with_zone z zs → Settles (planned.Updated z) zs (answer.Updated origin) new
-put_settles z origin zs new o put = inl (ap (λ (n : Name). answer.Updated n) o, put)
-
-pub long_settles : (z : Zone) (zs : List Zone) → Settles (planned.Updated z) zs answer.TooLong zs
-long_settles z zs = inr (refl, refl)
+pub answered : (access : UpdateAccess) (now room : ℕ) (message : List ℕ) (zs new : List Zone) (x : PlannedUpdate) (a : UpdateAnswer) (response octets : List ℕ)
+    → PlansUpdate access now message zs x octets → response ≡ octets → Comes room response x zs a new → AnswersUpdate access now room message zs a octets new
+answered access now room message zs new x a response octets plans is comes = record {
+  plan = x;
+  plans = plans;
+  comes = subst (λ (o : List ℕ). Comes room o x zs a new) is comes;
+}
 
 -- ---- a message
 
-module _ (access : UpdateAccess) (now room : ℕ) (message : List ℕ) (h : Header) (zs : List Zone) (octets : List ℕ) where
-  pub as_update : (a : UpdateAnswer) (new : List Zone) → is_update h ≡ true → AnswersBy access now room message h (checked_of access.keys.items now message) zs a octets new
-      → AnswersAs access now room message h zs a octets new
-  as_update a new is answers =
-      subst (λ (b : Bool). MatchBool b (AnswersBy access now room message h (checked_of access.keys.items now message) zs a octets new) (IsLeft zs a new)) (sym is) answers
+module _ (access : UpdateAccess) (now : ℕ) (message : List ℕ) (h : Header) (zs : List Zone) (octets : List ℕ) where
+  pub as_update : (x : PlannedUpdate) → is_update h ≡ true → PlansBy access now message h (checked_of access.keys.items now message) zs x octets
+      → PlansAs access now message h zs x octets
+  as_update x is plans =
+      subst (λ (b : Bool). MatchBool b (PlansBy access now message h (checked_of access.keys.items now message) zs x octets) (x ≡ planned.Other)) (sym is) plans
 
-  pub as_other : is_update h ≡ false → AnswersAs access now room message h zs answer.Other octets zs
+  pub as_other : is_update h ≡ false → PlansAs access now message h zs planned.Other octets
   as_other is =
-      subst (λ (b : Bool). MatchBool b (AnswersBy access now room message h (checked_of access.keys.items now message) zs answer.Other octets zs) (IsLeft zs answer.Other zs)) (sym is) (refl, refl)
+      subst (λ (b : Bool). MatchBool b (PlansBy access now message h (checked_of access.keys.items now message) zs planned.Other octets) (planned.Other ≡ planned.Other)) (sym is) refl

@@ -1,5 +1,5 @@
 -- Laws of updates of the zones of a database
-use Rattle.std.specs.Prelude.{◌≡◌, ◌⊎◌, ℕ, false, List, Some, IsTrue}
+use Rattle.std.specs.Prelude.{◌≡◌, ◌⊎◌, ℕ, true, false, List, [], ◌∷◌, ◌++◌, Some, IsTrue}
 use Rattle.std.specs.List.{find}
 use Rattle.message_tsig.specs.declared.key.Key.{Key}
 use Rattle.message_tsig.specs.declared.tsig.Tsig.{Tsig}
@@ -7,6 +7,8 @@ use Rattle.message_tsig.specs.Checking.{IsAuthentic}
 use Rattle.message_tsig.specs.Keys.{are_same}
 use Rattle.zone_proto.specs.Names.{Name}
 use Rattle.zone_map.specs.Zones.{Sets, set_at}
+use Rattle.zone_difference.specs.Laws.{last_of}
+use Rattle.zone_journal.specs.Journals.{IsJournal}
 use Rattle.update_policy.specs.Policies.{permits}
 use Rattle.update_permission.specs.PermittedChanges.{HasNextSerial}
 use Rattle.zone_database.specs.declared.zone.Zone.{Zone}
@@ -14,7 +16,10 @@ use Rattle.zone_database.specs.Databases.{begins_at}
 use Rattle.zone_database.specs.Zones.{zone_of_records}
 use Rattle.held_updates.specs.declared.access.UpdateAccess.{UpdateAccess}
 use Rattle.held_updates.specs.declared.answering.UpdateAnswer.TheVariants as answer
-use Rattle.held_updates.specs.Answering.{is_signed, AnswersUpdate}
+use Rattle.held_updates.specs.declared.planned.UpdatedZone.{UpdatedZone}
+use Rattle.held_updates.specs.Answering.{AnswersUpdate}
+use Rattle.held_updates.specs.Journaling.{IsJournaled}
+use Rattle.held_updates.specs.Planning.{is_signed}
 use Rattle.held_updates.specs.Tables.{rules_for}
 
 -- a message was found signed under a key of these at this moment
@@ -45,3 +50,9 @@ abbrev pub RefusalsChangeNothing : Type 0
 RefusalsChangeNothing = (access : UpdateAccess) (now room : ℕ) (message : List ℕ) (zs new : List Zone) (octets : List ℕ)
     → AnswersUpdate access now room message zs answer.Refused octets new ⊎ (AnswersUpdate access now room message zs answer.Other octets new
     ⊎ AnswersUpdate access now room message zs answer.TooLong octets new) → new ≡ zs
+
+-- The frame of a zone after an update, put behind the journal of the versions that led to the one before, makes it the journal of one more.
+abbrev pub JournalsGrowByUpdates : Type 0
+JournalsGrowByUpdates = (z : Zone) (u : UpdatedZone) (a : Sets) (bs : List Sets) (journal : List ℕ) → IsJournaled true (Some z) u
+    → IsJournal u.zone.origin a bs journal → last_of a bs ≡ z.inner.records
+    → IsJournal u.zone.origin a (bs ++ u.zone.inner.records ∷ []) (journal ++ u.frame.items)

@@ -1,3 +1,6 @@
 pub mod Tables
+pub mod Planning
+pub mod Journaling
 pub mod Answering
+pub mod Replaying
 pub mod Laws

@@ -1,6 +1,7 @@
 //! Laws of the definitions that the calls of this crate are proved to meet. Each is an empty function whose contract is the law, for
 //! every value, so a program has no need to call one.
-ghost use Rattle.held_updates.specs.Laws.{RefusalsChangeNothing, UpdatesArePermitted};
+ghost use Rattle.held_updates.specs.Laws.{JournalsGrowByUpdates, RefusalsChangeNothing, UpdatesArePermitted};
+ghost use Rattle.held_updates.specs.Replaying.{JournalsAreReplayed};
 
 /// A zone changes only by a message that was found signed under a key: its MAC is right and whole, and the moment is within its fudge (RFC
 /// 8945 section 5.2). Each of its sets that the zone's rules don't permit the owner of this key to change stands as it did, but for the SOA,
@@ -9,4 +10,11 @@ ghost use Rattle.held_updates.specs.Laws.{RefusalsChangeNothing, UpdatesArePermi
 pub fn updates_are_permitted()
     ensures permitted { UpdatesArePermitted }
     ensures refused { RefusalsChangeNothing }
+{}
+
+/// What the journal of a zone gets of an update makes it the journal of one version more, that after the update. Replayed over one of the versions a
+/// journal leads to the last; and cut off behind any octet, as by a crash, to one of them (`zone_journal::laws`).
+pub fn updates_are_journaled()
+    ensures grown { JournalsGrowByUpdates }
+    ensures replayed { JournalsAreReplayed }
 {}

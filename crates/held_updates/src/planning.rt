@@ -5,9 +5,12 @@ ghost use Rattle.update_message.specs.Updates.{parts_of, update_of};
 ghost use Rattle.zone_database.specs.Databases.{zones_in};
 ghost use Rattle.zone_database.specs.Zones.{zone_of_records};
 ghost use Rattle.zone_update.specs.Entries.{code_of, Gives};
-ghost use Rattle.held_updates.specs.Answering.{outcome_among, updated_in, Plans, RepliesTo};
+ghost use Rattle.held_updates.specs.Journaling.{IfUpdated, IsJournaled, IsPlanJournaled};
+ghost use Rattle.held_updates.specs.Planning.{outcome_among, updated_in, Plans, RepliesTo};
 
 use crate::access::UpdateAccess;
+use crate::journaling::journaled;
+use crate::planned::{PlannedUpdate, UpdatedZone};
 use crate::signed_zones::is_signed;
 use message_reading::Header;
 use std::alloc::{AllocError, Global};
@@ -15,63 +18,57 @@ use update_message::{OPCODE, UpdateError, UpdateMessage, read_update, write_resp
 use update_permission::updated_if_permitted;
 use update_policy::Rule;
 use zone_database::{Zone, ZoneDatabase, zone_of};
+use zone_journal::EntryFault;
 use zone_map::RecordMap;
 use zone_proto::LowerName;
 use zone_update::{Refusal, Update};
 
-/// What is to become of the zones by a message.
-#[derive(Drop)]
-pub(crate) enum Planned {
-    /// Nothing: it is no update.
-    Other,
-    /// Nothing: the update is refused, and the response is there.
-    Refused,
-    /// This zone is to take the place of the one of its origin, and the response is there.
-    Updated(Zone),
-}
-
-/// Carries out an update of a zone among those of a database, for the owner of a key, and writes the response in place of the octets of `out`.
-/// The message has no TSIG any more. Fails only for lack of memory.
+/// Carries out an update beside its zone, one among those of a database, for the owner of a key, and writes the response in place of the octets
+/// of `out`. The message has no TSIG any more. Fails only for lack of memory.
 pub(crate) fn plan(
     alloc: Global,
     zones: &ZoneDatabase,
     access: &UpdateAccess,
     key: Option<&LowerName>,
+    is_kept: bool,
     message: &[u8],
     out: &mut Vec<u8>,
-) -> Result<Planned, AllocError>
-    ensures { IfOk result (λ planned. Plans
+) -> Result<PlannedUpdate, AllocError>
+    ensures plan { IfOk result (λ planned. Plans
         (outcome_among access.now (option_copied key.entry) (zones_in zones.now))
         (update_of message.now) planned out.new.items) }
+    ensures journaled { IfOk result (IsPlanJournaled is_kept (zones_in zones.now)) }
 {
     match read_update(alloc, message) {
-        Ok(asked) => plan_asked(alloc, zones, access, key, asked, out),
+        Ok(asked) => plan_asked(alloc, zones, access, key, is_kept, asked, out),
         Err(UpdateError::Malformed(header)) => {
             refuse(out, header, Refusal::FormErr, false)?;
-            Ok(Planned::Refused)
+            Ok(PlannedUpdate::Refused)
         }
         Err(UpdateError::OtherClass(header)) => {
             refuse(out, header, Refusal::NotAuth, false)?;
-            Ok(Planned::Refused)
+            Ok(PlannedUpdate::Refused)
         }
-        Err(UpdateError::NoUpdate) => Ok(Planned::Other),
+        Err(UpdateError::NoUpdate) => Ok(PlannedUpdate::Other),
         Err(UpdateError::Memory) => Err(AllocError),
     }
 }
 
 /// The same for an update that was read.
-#[tactic(auto, using(crate::proofs::Plans::planned_of))]
+#[tactic(auto, using(crate::proofs::Plans::journaled_in))]
 fn plan_asked(
     alloc: Global,
     zones: &ZoneDatabase,
     access: &UpdateAccess,
     key: Option<&LowerName>,
+    is_kept: bool,
     asked: UpdateMessage,
     out: &mut Vec<u8>,
-) -> Result<Planned, AllocError>
-    ensures { IfOk result (λ planned. Plans
+) -> Result<PlannedUpdate, AllocError>
+    ensures plan { IfOk result (λ planned. Plans
         (outcome_among access.now (option_copied key.entry) (zones_in zones.now))
         (Ok (parts_of asked)) planned out.new.items) }
+    ensures journaled { IfOk result (IsPlanJournaled is_kept (zones_in zones.now)) }
 {
     let UpdateMessage {
         header,
@@ -84,36 +81,67 @@ fn plan_asked(
     };
     let (zone, rules) = (zones.get(&origin), access.rules_for(&origin));
     let after = updated_in(alloc, rules, key, &origin, zone, update);
-    let planned = reply(alloc, origin, after, header, has_extension, out)?;
+    let planned = reply(
+        alloc,
+        origin,
+        zone,
+        after,
+        is_kept,
+        header,
+        has_extension,
+        out,
+    )?;
     Ok(planned)
 }
 
-/// Writes the response to an update of the zone of an origin that ended so.
+/// Writes the response to an update of the zone of an origin that ended so. SERVFAIL goes out where a journal can't take it.
 fn reply(
     alloc: Global,
     origin: LowerName,
+    before: Option<&Zone>,
     after: Result<RecordMap, Refusal>,
+    is_kept: bool,
     header: Header,
     has_extension: bool,
     out: &mut Vec<u8>,
-) -> Result<Planned, AllocError>
-    ensures { IfOk result (λ planned.
+) -> Result<PlannedUpdate, AllocError>
+    ensures reply { IfOk result (λ planned.
         RepliesTo after origin header has_extension planned out.new.items) }
+    ensures journaled { IfOk result (IfUpdated (IsJournaled is_kept (option_copied before.entry))) }
 {
-    match after {
-        Ok(after) => {
-            let zone = zone_after(alloc, origin, after)?;
-            match respond(out, header, 0, has_extension) {
-                Ok(()) => Ok(Planned::Updated(zone)),
-                Err(_) => {
-                    drop(zone);
-                    Err(AllocError)
-                }
-            }
-        }
+    let after = match after {
+        Ok(after) => after,
         Err(refusal) => {
             refuse(out, header, refusal, has_extension)?;
-            Ok(Planned::Refused)
+            return Ok(PlannedUpdate::Refused);
+        }
+    };
+    let zone = zone_after(alloc, origin, after)?;
+    match journaled(alloc, is_kept, before, zone) {
+        Ok(updated) => accept(out, header, has_extension, updated),
+        Err(EntryFault::Memory) => Err(AllocError),
+        Err(EntryFault::Unreadable | EntryFault::Unwritable) => {
+            refuse(out, header, Refusal::Memory, has_extension)?;
+            Ok(PlannedUpdate::Refused)
+        }
+    }
+}
+
+/// Writes the response to an update that was carried out so.
+fn accept(
+    out: &mut Vec<u8>,
+    header: Header,
+    has_extension: bool,
+    updated: UpdatedZone,
+) -> Result<PlannedUpdate, AllocError>
+    ensures reply { OnOk result (out.new.items ≡ reply_text header 0 has_extension) }
+    ensures updated { IfOk result (λ planned. planned ≡ PlannedUpdate.Updated updated) }
+{
+    match respond(out, header, 0, has_extension) {
+        Ok(()) => Ok(PlannedUpdate::Updated(updated)),
+        Err(_) => {
+            drop(updated);
+            Err(AllocError)
         }
     }
 }

@@ -2,7 +2,7 @@
 ghost use Rattle.std.specs.Prelude.{◌≡◌, IfOk};
 ghost use Rattle.zone_map.specs.Zones.{owns};
 ghost use Rattle.zone_proto.specs.Types.{DNSKEY};
-ghost use Rattle.held_updates.specs.Answering.{is_signed};
+ghost use Rattle.held_updates.specs.Planning.{is_signed};
 
 use std::alloc::AllocError;
 use zone_database::Zone;

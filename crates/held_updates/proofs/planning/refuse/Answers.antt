@@ -1,4 +1,4 @@
-use Rattle.std.proofs.Common.{◌≡◌, ◌<◌, sym, subst, ℕ}
+use Rattle.std.proofs.Common.{◌<◌, sym, subst, ℕ}
 use Rattle.update_answers.proofs.Codes.{code_short}
 use Rattle.held_updates.proofs.planning.refuse.Goals as goal
 
