@@ -5,13 +5,13 @@ ghost use Rattle.keyed_frames.specs.Stopping.{BreaksOff};
 ghost use Rattle.zone_database.specs.Databases.{zones_in};
 ghost use Rattle.zoned.specs.Keyed.{all_with, grants_for, grants_of, name_of};
 
-use crate::reporting::{tell, tell_stop};
+use crate::reporting::tell_stop;
 use held_transfers::TransferAccess;
+use host_texts::{read_file, tell};
 use key_files::KeyFileError;
 use keyed_frames::{Clock, serve_keyed_frames};
 use message_tsig::Key;
 use std::alloc::{AllocError, Global};
-use std::fs;
 use std::io::{Read, Write};
 use std::time::SystemTime;
 use zone_database::{Zone, ZoneDatabase};
@@ -79,14 +79,7 @@ fn read_access<E: Write>(
     fault: &mut E,
 ) -> Option<TransferAccess> {
     let mut text = Vec::new(alloc);
-    let read = match fs::open(rt, file) {
-        Ok(mut input) => input.read_to_end(&mut text),
-        Err(e) => Err(e),
-    };
-    if let Err(e) = read {
-        let _ = write!(fault, "{file}: the file can't be read: {}\n", e.kind());
-        return None;
-    }
+    read_file(rt, file, &mut text, fault)?;
     match TransferAccess::read(alloc, text.as_slice()) {
         Ok(access) => Some(access),
         Err(KeyFileError::Memory) => {

@@ -16,13 +16,13 @@ mod serving;
 mod wanted;
 mod zones;
 
+use host_texts::{arguments, tell};
 use keyed::serve_by_keys;
-use reporting::tell;
 use serving::serve;
-use std::alloc::{AllocError, Global};
+use std::alloc::Global;
+use std::io;
 use std::io::Write;
 use std::process::ExitCode;
-use std::{env, io};
 use wanted::{Wanted, wanted_by};
 use zone_database::Zone;
 use zones::{load_zones, policies};
@@ -31,19 +31,12 @@ const USAGE: &[u8] =
     b"usage: zoned [--check] [--limits] [--keys FILE] [ZONE..] [--transfers ZONE..] [--signed ZONE..], a ZONE is FILE or ORIGIN=FILE\n";
 
 fn main(rt: HostRuntime) -> ExitCode {
-    let alloc = rt.alloc();
-    let args = match env::args(&rt) {
-        Ok(words) => words.skip(1).collect::<Vec<String>>(alloc),
-        // Words that are no text are wrong arguments, as no words are.
-        Err(e) if e.kind() == io::ErrorKind::InvalidData => Ok(Vec::new(alloc)),
-        Err(_) => Err(AllocError),
-    };
     let mut fault = rt.stderr();
-    let Ok(args) = args else {
+    let Ok(args) = arguments(&rt) else {
         return ExitCode::from(tell(&mut fault, b"out of memory\n"));
     };
-    let status = match wanted_by(alloc, args.as_slice()) {
-        Ok(Some(wanted)) => run(&rt, alloc, &wanted),
+    let status = match wanted_by(rt.alloc(), args.as_slice()) {
+        Ok(Some(wanted)) => run(&rt, rt.alloc(), &wanted),
         Ok(None) => tell(&mut fault, USAGE),
         Err(_) => tell(&mut fault, b"out of memory\n"),
     };

@@ -10,10 +10,9 @@ ghost use Rattle.zone_texts.specs.Readings.{IsReadOf};
 ghost use Rattle.zoned.specs.Files.{IsZoneOfFileAlone, IsZoneOfFiles};
 ghost use Rattle.zoned.specs.Zones.{policy_of};
 
-use crate::reporting::{tell, tell_at, tell_faults};
 use crate::wanted::WantedZone;
 use file_origins::{first_origin, zone_origin};
-use host_texts::HostTexts;
+use host_texts::{HostTexts, read_faultless, refuse_at, refuse_unread, tell, tell_at};
 use std::alloc::{AllocError, Global};
 use std::collections::BTreeMap;
 use std::fs;
@@ -23,10 +22,7 @@ use zone_database::{Zone, load_records, zone_of};
 use zone_file::PlacedRecord;
 use zone_proto::{LowerName, ProtoError, RecordType, RrKey};
 use zone_server::TransferPolicy;
-use zone_texts::{FilesError, Reading, Sources, Texts, read_files};
-
-/// How many faults of a file are told.
-const MOST_TOLD: usize = 20;
+use zone_texts::{Reading, Sources, Texts};
 
 /// Loads the zones that are wanted. None if one can't be loaded, or two have one origin; why is told.
 pub fn load_zones<E: Write>(
@@ -79,15 +75,7 @@ fn load_file<E: Write>(
             let mut texts = HostTexts { rt };
             load_zone(alloc, wanted, &mut input, &mut texts, fault)
         }
-        Err(e) => {
-            let _ = write!(
-                fault,
-                "{}: the file can't be read: {}\n",
-                wanted.file,
-                e.kind()
-            );
-            None
-        }
+        Err(e) => refuse_unread(fault, wanted.file, e.kind()),
     }
 }
 
@@ -185,23 +173,8 @@ fn read_records<R: Read, T: Texts, E: Write>(
         tell(fault, b"out of memory\n");
         return None;
     };
-    match read_files(alloc, origin, wanted.file, input, texts, MOST_TOLD) {
-        Ok(reading) => {
-            if !reading.is_faultless() {
-                tell_faults(fault, &reading);
-                return None;
-            }
-            Some(reading)
-        }
-        Err(FilesError::Memory) => {
-            tell(fault, b"out of memory\n");
-            None
-        }
-        Err(FilesError::Input(kind)) => {
-            let _ = write!(fault, "{}: the file can't be read: {kind}\n", wanted.file);
-            None
-        }
-    }
+    let reading = read_faultless(alloc, origin, wanted.file, input, texts, fault)?;
+    Some(reading)
 }
 
 /// Makes the zone of the records of a file.
@@ -225,10 +198,7 @@ fn loaded_of<E: Write>(
             tell(fault, b"out of memory\n");
             None
         }
-        Err(found) => {
-            tell_at(fault, sources, found.place(), &found);
-            None
-        }
+        Err(found) => refuse_at(fault, sources, found.place(), &found),
     }
 }
 
