@@ -12,10 +12,10 @@ use Rattle.zone_database.specs.declared.zone.Zone.{Zone}
 use Rattle.zone_database.specs.Databases.{zones_in}
 use Rattle.held_transfers.specs.declared.access.TransferAccess.{TransferAccess}
 use Rattle.held_transfers.specs.declared.answering.KeyedAnswer.{KeyedAnswer}
-use Rattle.held_transfers.specs.declared.held_transfer.HeldTransfer.{HeldTransfer}
+use Rattle.held_steps.specs.declared.held_answer.HeldAnswer.{HeldAnswer}
 use Rattle.held_transfers.specs.Accesses.{ReadsKeys}
 use Rattle.held_transfers.specs.Answering.{AnswersWithKeys}
-use Rattle.held_transfers.specs.Holding.{GoesOnHeld}
+use Rattle.held_steps.specs.Sending.{GoesOnAnswer}
 use Rattle.transfer_calls.specs.declared.outcome.TransferOutcome.{TransferOutcome}
 use Rattle.transfer_calls.specs.declared.outcome.TransferOutcome.TheVariants.{Usual, NoMore}
 use Rattle.transfer_calls.specs.Accesses.{AllowsHeld, IsAllowed, IsSameAccess, IsUnreadGrant, ReadsAccess}
@@ -41,7 +41,7 @@ allowed_held origin key held new a after o is d set = subst (λ (h : Option Tran
 
 -- ---- a message is answered
 
-module _ (t : Transport) (m : ClientMessage) (old new : Option HeldTransfer) (o : TransferOutcome) (written : ℕ) (before after : List ℕ) where
+module _ (t : Transport) (m : ClientMessage) (old new : Option HeldAnswer) (o : TransferOutcome) (written : ℕ) (before after : List ℕ) where
   pub answered : (access : TransferAccess) (zs : List Zone) (x : KeyedAnswer) (octets : List ℕ) → AnswersWithKeys access zs m.moment t m.octets.now x octets
       → TellsAnswer x octets old o written before after new → AnswersKeyed access zs t m old o written before after new
   answered access zs x octets is told = inr (x, octets, is, told)
@@ -59,18 +59,18 @@ module _ (t : Transport) (m : ClientMessage) (old new : Option HeldTransfer) (o 
 
 -- ---- a transfer goes on
 
-module _ (now : ℕ) (old h : HeldTransfer) (octets : List ℕ) (written : ℕ) (before after : List ℕ) (r : Result Bool AllocError) where
-  pub handed : (o : TransferOutcome) (b : Bool) → r ≡ Ok b → b ≡ true → GoesOnHeld now old h octets r → IsGivenBy octets o written before after → HandsOut now old h o written before after
+module _ (now : ℕ) (old h : HeldAnswer) (octets : List ℕ) (written : ℕ) (before after : List ℕ) (r : Result Bool AllocError) where
+  pub handed : (o : TransferOutcome) (b : Bool) → r ≡ Ok b → b ≡ true → GoesOnAnswer now old h octets r → IsGivenBy octets o written before after → HandsOut now old h o written before after
   handed o b is more on told = record { octets = octets; goes = r; on = on; told = subst (λ (x : Result Bool AllocError). TellsMessage x octets o written before after) (sym (is ∙ ap Ok more)) told }
 
-  pub handed_none : (b : Bool) → r ≡ Ok b → b ≡ false → GoesOnHeld now old h octets r → IsUntouched written before after → HandsOut now old h NoMore written before after
+  pub handed_none : (b : Bool) → r ≡ Ok b → b ≡ false → GoesOnAnswer now old h octets r → IsUntouched written before after → HandsOut now old h NoMore written before after
   handed_none b is none on same =
       record { octets = octets; goes = r; on = on; told = subst (λ (x : Result Bool AllocError). TellsMessage x octets NoMore written before after) (sym (is ∙ ap Ok none)) (refl, same) }
 
-  pub handed_later : (e : AllocError) → r ≡ Err e → GoesOnHeld now old h octets r → IsUntouched written before after → HandsOut now old h (Usual NoMemory) written before after
+  pub handed_later : (e : AllocError) → r ≡ Err e → GoesOnAnswer now old h octets r → IsUntouched written before after → HandsOut now old h (Usual NoMemory) written before after
   handed_later e is on same =
       record { octets = octets; goes = r; on = on; told = subst (λ (x : Result Bool AllocError). TellsMessage x octets (Usual NoMemory) written before after) (sym is) (refl, same) }
 
-pub given_held : (now : ℕ) (held : Option HeldTransfer) (old h : HeldTransfer) (o : TransferOutcome) (written : ℕ) (before after : List ℕ) (new : Option HeldTransfer) → held ≡ Some old
+pub given_held : (now : ℕ) (held : Option HeldAnswer) (old h : HeldAnswer) (o : TransferOutcome) (written : ℕ) (before after : List ℕ) (new : Option HeldAnswer) → held ≡ Some old
     → HandsOut now old h o written before after → IsKeptBy o h new → GivesMessage now held o written before after new
-given_held now held old h o written before after new is handed kept = subst (λ (x : Option HeldTransfer). GivesMessage now x o written before after new) (sym is) (h, handed, kept)
+given_held now held old h o written before after new is handed kept = subst (λ (x : Option HeldAnswer). GivesMessage now x o written before after new) (sym is) (h, handed, kept)

@@ -31,8 +31,8 @@ use Rattle.std.specs.contracts.impls.GlobalAllocator.TheImpl.{ghosts}
 use Rattle.std.proofs.GlobalToken.{dealloc_token-Testable}
 use Rattle.std_alloc.specs.Box.Ownership.{box_owns}
 use Rattle.transfer_calls.specs.TransferHolding.{owns_held}
-use Rattle.held_transfers.specs.declared.held_transfer.HeldTransfer.{HeldTransfer}
-use Rattle.held_transfers.specs.contracts.held_transfer.HeldTransfer as transfer
+use Rattle.held_steps.specs.declared.held_answer.HeldAnswer.{HeldAnswer}
+use Rattle.held_steps.specs.contracts.held_answer.HeldAnswer as transfer
 use Rattle.transfer_calls.specs.contracts.transfer_handle.TransferHandle as handle
 use Rattle.call_handles.proofs.RawBoxes.{pair}
 
@@ -52,12 +52,12 @@ Row = handle.the_row
 abbrev al : Al
 al = record { row = Z; laws = LZ; g = ghosts; d = impl [] tnil dnil; drops = impl [] tnil dnil }
 
-abbrev pub block : Global → Ptr → HeldTransfer → Fml
+abbrev pub block : Global → Ptr → HeldAnswer → Fml
 block a = box_owns (ghosts.dealloc_token a) R
 
 module _ {M : Type 1} {𝓤 : Ura M} (𝓛 : Logic 𝓤) where
   -- who may free a block may compare the pointer to it with null
-  pub testable : (a : Global) (p : Ptr) (x : HeldTransfer) → ent 𝓤 (sem 𝓛 (block a p x)) (guard 𝓤 (Testable p) (sem 𝓛 (block a p x)))
+  pub testable : (a : Global) (p : Ptr) (x : HeldAnswer) → ent 𝓤 (sem 𝓛 (block a p x)) (guard 𝓤 (Testable p) (sem 𝓛 (block a p x)))
   testable a p x =
       fact_use 𝓤 (Testable p) (via 𝓤 _ (snd∗ 𝓤 (sem 𝓛 (lies_at R full_share p x)) (sem 𝓛 (ghosts.dealloc_token a (bare (lone R.mir)) p))) (dealloc_token-Testable 𝓛 a (bare (lone R.mir)) p))
       (guard_i 𝓤 (Testable p) (sem 𝓛 (block a p x)))
@@ -71,14 +71,14 @@ module _ {M : Type 1} {𝓤 : Ura M} {𝓛 : Logic 𝓤} {K : Type 0} {Γ : List
       let by_parts : vs ≡ vstruct (of_list (ptr_val d.ptr ∷ (parts.1.0 ++ []))) ∷ [] = subst (λ (ps : List Val). vs ≡ vstruct (of_list (ps ++ (parts.1.0 ++ []))) ∷ []) first whole in
       k h (subst (λ (ws : List Val). vs ≡ vstruct (of_list (ptr_val d.ptr ∷ (ws ++ []))) ∷ []) second by_parts) fits))))
 
-  pub close_handle : K → (p : Ptr) (h : Val) (a : Global) (held : Option HeldTransfer)
+  pub close_handle : K → (p : Ptr) (h : Val) (a : Global) (held : Option HeldAnswer)
       → Step K 𝓛 (‵ (Row.own_val (record { ptr = p; alloc = a; held = held }) (pair (ptr_val p) h ∷ [])) ∷ Γ) G (‵ (owns_held a p held) ∷ ‵ (Z.own_val a (h ∷ [])) ∷ Γ) G
   close_handle t p h a held = step (λ k. let v : Val = pair (ptr_val p) h in
       nothing t $ move t (2 ∷ 0 ∷ []) $ fjoin t $ feq_i t (List Val) (ptr_val p ∷ []) (ptr_val p ∷ []) refl $ fjoin t $ feq_i t (List Val) (v ∷ []) (v ∷ []) refl $ fjoin t $
       fpack t (Valss (RawPtr ∷ Z ∷ [])) _ (ptr_val p ∷ [], (h ∷ [], tt)) $ fjoin t $ k)
 
-  pub by_content : K → (a : Global) (p : Ptr) (held : Option HeldTransfer) → (p ≡ null_ptr → held ≡ None → Seq K 𝓛 Γ G)
-      → ((b o : ℕ) (x : HeldTransfer) → p ≡ block_ptr b o → held ≡ Some x → Testable (block_ptr b o) → Seq K 𝓛 (‵ (block a (block_ptr b o) x) ∷ Γ) G) → Seq K 𝓛 (‵ (owns_held a p held) ∷ Γ) G
+  pub by_content : K → (a : Global) (p : Ptr) (held : Option HeldAnswer) → (p ≡ null_ptr → held ≡ None → Seq K 𝓛 Γ G)
+      → ((b o : ℕ) (x : HeldAnswer) → p ≡ block_ptr b o → held ≡ Some x → Testable (block_ptr b o) → Seq K 𝓛 (‵ (block a (block_ptr b o) x) ∷ Γ) G) → Seq K 𝓛 (‵ (owns_held a p held) ∷ Γ) G
   by_content t a null_ptr None empty full = drop t $ empty refl refl
   by_content t a null_ptr (Some x) empty full = use1 𝓛 (given ⊥ (‵ ftrue)) (never_e 𝓤 _) $ learn t (λ wrong. absurd wrong)
   by_content t a (block_ptr b o) None empty full = use1 𝓛 (given ⊥ (‵ ftrue)) (never_e 𝓤 _) $ learn t (λ wrong. absurd wrong)

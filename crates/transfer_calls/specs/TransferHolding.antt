@@ -7,16 +7,16 @@ use denote.RawPtr.{Ptr, null_ptr, block_ptr}
 use Rattle.std.specs.declared.alloc.Global.{Global}
 use Rattle.std.specs.contracts.impls.GlobalAllocator.TheImpl.{ghosts}
 use Rattle.std_alloc.specs.Box.Ownership.{box_owns}
-use Rattle.held_transfers.specs.declared.held_transfer.HeldTransfer.{HeldTransfer}
-use Rattle.held_transfers.specs.contracts.held_transfer.HeldTransfer.{the_row}
+use Rattle.held_steps.specs.declared.held_answer.HeldAnswer.{HeldAnswer}
+use Rattle.held_steps.specs.contracts.held_answer.HeldAnswer.{the_row}
 
 -- how the logic stores what a handle holds
-abbrev pub held_code : Coded (Option HeldTransfer)
+abbrev pub held_code : Coded (Option HeldAnswer)
 held_code = coded_option the_row.coded
 
 -- what the owner of a handle may do with the memory at its pointer: nothing at null; else read, write and free the block that the transfer
 -- lies in, and nobody else may
-abbrev pub owns_held : Global → Ptr → Option HeldTransfer → Fml
+abbrev pub owns_held : Global → Ptr → Option HeldAnswer → Fml
 owns_held alloc null_ptr None = ftrue
 owns_held alloc null_ptr (Some transfer) = ffalse
 owns_held alloc (block_ptr b o) None = ffalse

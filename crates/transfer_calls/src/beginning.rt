@@ -1,12 +1,13 @@
 //! Messages answered by keys, from zones that are kept.
 ghost use Rattle.std.specs.Prelude.{◌≡◌, ◌⊎◌, Some};
 ghost use Rattle.zone_database.specs.Databases.{zones_in};
-ghost use Rattle.transfer_calls.specs.Transfers.{AnswersByAccess, AnswersByZones, AnswersKeyed, AnswersMessage, IsGivenBy, TellsAnswer};
+ghost use Rattle.transfer_calls.specs.Transfers.{AnswersByAccess, AnswersByZones, AnswersKeyed, AnswersMessage, IsGivenBy, TellsAnswer, whole_of};
 
 use crate::access_handle::AccessHandle;
 use crate::outcome::TransferOutcome;
 use crate::transfer_handle::TransferHandle;
 use arrival_calls::ClientMessage;
+use held_steps::HeldAnswer;
 use held_transfers::{HeldTransfer, KeyedAnswer, TransferAccess, answer_with_keys};
 use std::alloc::Global;
 use zone_database::calls::transport_of;
@@ -184,11 +185,11 @@ pub(crate) fn give_response(
 
 /// Has a handle hold a transfer, in place of what it holds; `NoMemory` leaves that.
 fn put_transfer(alloc: Global, transfer: &mut TransferHandle, held: HeldTransfer) -> TransferOutcome
-    ensures { ((result ≡ TransferOutcome.Transfer) × (transfer.new.held ≡ Some held))
+    ensures { ((result ≡ TransferOutcome.Transfer) × (transfer.new.held ≡ Some (whole_of held)))
         ⊎ ((result ≡ TransferOutcome.Usual Outcome.NoMemory)
         × (transfer.new.held ≡ transfer.old.held)) }
 {
-    match Box::new(alloc, held) {
+    match Box::new(alloc, HeldAnswer::new(held)) {
         Ok(held) => {
             transfer.put(held);
             TransferOutcome::Transfer

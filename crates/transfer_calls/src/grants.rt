@@ -38,7 +38,7 @@ fn key_name_of(alloc: Global, octets: &[u8]) -> Result<Option<LowerName>, Transf
 }
 
 /// The name that octets are (RFC 1035 section 5.1), in lower case; a final dot may be left out.
-fn name_of(alloc: Global, octets: &[u8]) -> Result<LowerName, TransferOutcome>
+pub(crate) fn name_of(alloc: Global, octets: &[u8]) -> Result<LowerName, TransferOutcome>
     ensures name { IfOk result (IsName octets.now) }
     ensures refusal { IfErr result (IsUnread octets.now) }
 {

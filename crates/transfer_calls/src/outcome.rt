@@ -21,6 +21,8 @@ pub enum TransferOutcome {
     NoTransfer,
     /// All messages of the transfer were handed out.
     NoMore,
+    /// There are no steps: none were begun, or they were freed; or not those that the one who asks lacks, and the zone goes out whole.
+    NoSteps,
 }
 
 impl TransferOutcome {
@@ -36,6 +38,7 @@ impl TransferOutcome {
             TransferOutcome::Transfer => 35,
             TransferOutcome::NoTransfer => 36,
             TransferOutcome::NoMore => 27,
+            TransferOutcome::NoSteps => 37,
         }
     }
 }

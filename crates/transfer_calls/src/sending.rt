@@ -5,7 +5,7 @@ ghost use Rattle.transfer_calls.specs.Transfers.{GivesMessage, HandsOut, IsKeptB
 use crate::beginning::give_response;
 use crate::outcome::TransferOutcome;
 use crate::transfer_handle::TransferHandle;
-use held_transfers::HeldTransfer;
+use held_steps::HeldAnswer;
 use std::alloc::Global;
 use std::mem;
 use zone_database::Outcome;
@@ -43,7 +43,7 @@ pub fn next(
 #[tactic(auto, using(crate::proofs::CallFacts::handed, crate::proofs::CallFacts::handed_none, crate::proofs::CallFacts::handed_later))]
 fn hand_out(
     alloc: Global,
-    held: &mut HeldTransfer,
+    held: &mut HeldAnswer,
     now: u64,
     buffer: &mut [u8],
     written: &mut usize,
@@ -63,7 +63,7 @@ fn hand_out(
 }
 
 /// Has a handle, which holds nothing, hold a transfer on, unless its last message was handed out, or one found no room.
-fn keep(transfer: &mut TransferHandle, held: Box<HeldTransfer>, outcome: TransferOutcome)
+fn keep(transfer: &mut TransferHandle, held: Box<HeldAnswer>, outcome: TransferOutcome)
     requires { transfer.old.held ≡ None }
     ensures { IsKeptBy outcome held.value transfer.new.held }
 {

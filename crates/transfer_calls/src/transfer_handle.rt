@@ -1,10 +1,10 @@
 //! What a caller that isn't Rattle keeps of a zone that is being sent.
 ghost use Rattle.std.specs.Prelude.{◌≡◌, Some, None, Option, MatchOption};
 ghost use Rattle.transfer_calls.specs.TransferHolding.{held_code, owns_held};
-ghost use Rattle.held_transfers.specs.declared.held_transfer.HeldTransfer.{HeldTransfer as Kept};
+ghost use Rattle.held_steps.specs.declared.held_answer.HeldAnswer.{HeldAnswer as Kept};
 
 use call_handles::RawBox;
-use held_transfers::HeldTransfer;
+use held_steps::HeldAnswer;
 use std::alloc::Global;
 use std::marker::Model;
 use std::{mem, ptr};
@@ -31,7 +31,7 @@ impl TransferHandle {
     }
 
     /// A handle of a zone that is being sent.
-    fn full(transfer: RawBox<HeldTransfer, Global>) -> TransferHandle
+    fn full(transfer: RawBox<HeldAnswer, Global>) -> TransferHandle
         ensures { result.held ≡ Some transfer.content }
     {
         let RawBox { ptr, alloc } = transfer;
@@ -40,11 +40,11 @@ impl TransferHandle {
     }
 
     /// What the handle holds.
-    fn content(self) -> Option<RawBox<HeldTransfer, Global>>
+    fn content(self) -> Option<RawBox<HeldAnswer, Global>>
         ensures { MatchOption result (self.held ≡ None) (λ raw. self.held ≡ Some raw.content) }
     {
         let TransferHandle { ptr, alloc } = self;
-        let ptr = ptr as *mut HeldTransfer;
+        let ptr = ptr as *mut HeldAnswer;
         if ptr.is_null() {
             None
         } else {
@@ -53,7 +53,7 @@ impl TransferHandle {
     }
 
     /// Takes the transfer out.
-    pub fn take(&mut self, alloc: Global) -> Option<Box<HeldTransfer>>
+    pub fn take(&mut self, alloc: Global) -> Option<Box<HeldAnswer>>
         ensures taken { MatchOption result (self.old.held ≡ None)
             (λ transfer. self.old.held ≡ Some transfer.value) }
         ensures left { self.new.held ≡ None }
@@ -65,7 +65,7 @@ impl TransferHandle {
     }
 
     /// Puts a zone that is being sent in place of what is held.
-    pub fn put(&mut self, transfer: Box<HeldTransfer>)
+    pub fn put(&mut self, transfer: Box<HeldAnswer>)
         ensures { self.new.held ≡ Some transfer.value }
     {
         drop(mem::replace(self, TransferHandle::full(RawBox::apart(transfer))));

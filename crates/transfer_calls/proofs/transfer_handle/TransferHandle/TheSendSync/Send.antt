@@ -13,13 +13,13 @@ use Rattle.std.proofs.Crossing.{frees}
 use Rattle.std.proofs.alloc.Global.TheSendSync as global
 use Rattle.std.specs.Prelude.{Option, Some, None}
 use Rattle.std.specs.declared.alloc.Global.{Global}
-use Rattle.held_transfers.proofs.held_transfer.HeldTransfer.TheSendSync.{the_send}
+use Rattle.held_steps.proofs.held_answer.HeldAnswer.TheSendSync.{the_send}
 use Rattle.transfer_calls.specs.TransferHolding.{owns_held}
-use Rattle.held_transfers.specs.declared.held_transfer.HeldTransfer.{HeldTransfer}
-use Rattle.held_transfers.specs.contracts.held_transfer.HeldTransfer as transfer
+use Rattle.held_steps.specs.declared.held_answer.HeldAnswer.{HeldAnswer}
+use Rattle.held_steps.specs.contracts.held_answer.HeldAnswer as transfer
 use Rattle.transfer_calls.specs.contracts.transfer_handle.TransferHandle.{the_row, the_type}
 
-held_keyless : (a : Global) (p : Ptr) (held : Option HeldTransfer) → Keyless (owns_held a p held)
+held_keyless : (a : Global) (p : Ptr) (held : Option HeldAnswer) → Keyless (owns_held a p held)
 held_keyless a null_ptr None = tt
 held_keyless a null_ptr (Some x) = tt
 held_keyless a (block_ptr b o) None = tt
