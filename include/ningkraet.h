@@ -97,6 +97,7 @@ enum {
     NK_UNKEYED = 34,      /* the message has no TSIG and asks for no transfer: nk_zones_answer or nk_zones_answer_client answers it */
     NK_TRANSFER = 35,     /* the messages of a zone follow */
     NK_NO_TRANSFER = 36,  /* there is no transfer: none was begun, or it came to its end, or was freed */
+    NK_NO_STEPS = 37,     /* there is no nk_steps: none was begun, or it was freed; or it lacks what a client needs */
     NK_WANTS_FILES = 40,  /* files are included of which there is no text yet: nk_files_next hands out their names */
     NK_NO_FILE = 41,      /* no file is wanted */
     NK_BAD_FILE_NAME = 42 /* the name of a file isn't UTF-8 */
@@ -125,6 +126,13 @@ typedef struct nk_transfer {
 
 #define NK_ACCESS_NONE {0}
 #define NK_TRANSFER_NONE {0}
+
+/* What changed in zones from version to version, or none. The rules for an nk_zones hold for it too: threads that share one take turns. */
+typedef struct nk_steps {
+    void *kept;
+} nk_steps;
+
+#define NK_STEPS_NONE {0}
 
 /* A plan of a zone that is being signed, or none. The rules for an nk_zones hold for it too. */
 typedef struct nk_plan {
@@ -312,7 +320,7 @@ void nk_access_free(nk_access *access);
  *  - A message that is rightly signed is answered as nk_zones_answer does, and the response is signed.
  *  - A transfer: NOTAUTH if there is no such zone, REFUSED if it doesn't go to the one who asks; the SOA alone if the client is up to date, or
  *    asks over UDP (RFC 1995 section 2). Otherwise NK_TRANSFER: nk_transfer_next hands out the zone whole, as it was at this moment, whatever
- *    is loaded or dropped meanwhile. The transfer replaces what is there, which is freed.
+ *    is loaded or dropped meanwhile; or what changed, after nk_transfer_steps. The transfer replaces what is there, which is freed.
  *
  * After NK_DONE the response is in the buffer, and `written` has its length, as for nk_zones_answer, and so after NK_NO_ROOM; with any other code
  * `written` is 0. With any code but NK_TRANSFER the transfer is as it was.
@@ -327,8 +335,31 @@ uint32_t nk_transfer_begin(nk_transfer *transfer, nk_zones *zones, nk_access *ac
  * NK_DONE, NK_NO_MORE, NK_NO_ROOM, NK_NO_MEMORY or NK_NO_TRANSFER. */
 uint32_t nk_transfer_next(nk_transfer *transfer, uint64_t now, uint8_t *buffer, size_t buffer_length, size_t *written);
 
+/* Has what changed go out in place of the whole zone (IXFR, RFC 1995 section 4), to the same client, signed as the zone would be. Call it after
+ * NK_TRANSFER, before the first nk_transfer_next, with the octets of the message that began the transfer. NK_NO_STEPS, and the zone goes out
+ * whole, if it was asked for whole (AXFR); if the changes from the client's serial to that of the version that is sent aren't kept; or if one of
+ * their records can't be sent. NK_NO_STEPS too if a message went out already, or what changed goes out. All messages are made at once: it takes
+ * memory for them, and nothing of the nk_steps afterwards.
+ * NK_DONE, NK_NO_STEPS, NK_NO_MEMORY or NK_NO_TRANSFER; after any code but NK_DONE the transfer is as it was. */
+uint32_t nk_transfer_steps(nk_transfer *transfer, nk_steps *steps, const uint8_t *message, size_t message_length);
+
 /* Frees the transfer, if there is one. Afterwards there is none. */
 void nk_transfer_free(nk_transfer *transfer);
+
+/* Initializes an nk_steps to which no version of a zone is known; at most `most` records, signatures among them, are kept of what changed in each
+ * zone. What was there before is freed once this has succeeded.
+ * NK_DONE, or NK_NO_MEMORY, after which what was there stays. */
+uint32_t nk_steps_new(nk_steps *steps, uint32_t most);
+
+/* Keeps what changed in the zone with this origin from the version that was noted before to the one that these zones have. Call it for each version
+ * that is loaded, from the first on, and again after NK_NO_MEMORY; clients may have the older version meanwhile. It reads both versions once, and
+ * copies the RRsets that changed. The oldest changes go where there are too many records; all go where the serial isn't newer than before (RFC
+ * 1982). The version that was noted last stays in memory, once, whether or not an nk_zones has it: call it after nk_zones_drop too.
+ * NK_DONE; NK_NO_ZONE, and what was noted of this origin is forgotten; NK_BAD_NAME, NK_NO_MEMORY, NK_NO_STEPS or NK_CLOSED, and nothing changes. */
+uint32_t nk_steps_note(nk_steps *steps, nk_zones *zones, const uint8_t *origin, size_t origin_length);
+
+/* Frees the nk_steps, if there is one. Afterwards there is none. */
+void nk_steps_free(nk_steps *steps);
 
 /* Writes the NOTIFY that tells a secondary of the zone with this origin that it has changed (RFC 1996 section 3), to be sent to the secondary by
  * UDP. It is at the beginning of the buffer, and `written` has its length, at most 271 octets; after NK_NO_ROOM `written` says how many octets are

@@ -1,6 +1,7 @@
 /* Has the library answer a message. */
 #include "limits.h"
 #include "worker.h"
+#include "zones.h"
 
 /* What a response by keys was, by its header: its options are not the library's to tell. */
 static nk_summary summary_of(const uint8_t *response) {
@@ -17,6 +18,7 @@ uint32_t answer_message(struct worker *worker, nk_transfer *transfer, const stru
     count(&counters->octets_in, query_length);
     uint32_t code = nk_transfer_begin(transfer, &worker->zones, &worker->access, &message, response, size, written);
     if (code == NK_DONE) *summary = summary_of(response);
+    if (code == NK_TRANSFER) zones_shorten(transfer, query, query_length);
     if (code == NK_UNKEYED || code == NK_NO_KEYS) code = nk_zones_answer_client(&worker->zones, &worker->config->settings, &message, response, size, written, summary);
     if (code != NK_DONE && code != NK_TRANSFER) count(code == NK_IGNORED ? &counters->ignored : &counters->no_memory, 1);
     return code;

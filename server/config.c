@@ -81,9 +81,7 @@ static int add_address(struct config *config, const char *host, const char *port
         v6->sin6_family = AF_INET6;
         v6->sin6_port = htons(port);
         address->length = sizeof *v6;
-    } else {
-        return fault("'%s' isn't an IPv4 or IPv6 address", host);
-    }
+    } else return fault("'%s' isn't an IPv4 or IPv6 address", host);
     snprintf(address->text, sizeof address->text, "%.46s port %u", host, port);
     return 0;
 }

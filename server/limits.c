@@ -31,10 +31,7 @@ static uint64_t hash_of(const uint8_t *octets, size_t length) {
         for (size_t i = 0; i < (left < 8 ? left : 8); i++) word = i == 7 ? (word & 0x00ffffffffffffff) | (uint64_t)octets[at + i] << 56 : word | (uint64_t)octets[at + i] << 8 * i;
         v[3] ^= word;
         for (int round = 0; round < (left < 8 ? 2 + 4 : 2); round++) {
-            if (left < 8 && round == 2) {
-                v[0] ^= word;
-                v[2] ^= 0xff;
-            }
+            if (left < 8 && round == 2) v[0] ^= word, v[2] ^= 0xff;
             v[0] += v[1], v[1] = rotated(v[1], 13) ^ v[0], v[0] = rotated(v[0], 32);
             v[2] += v[3], v[3] = rotated(v[3], 16) ^ v[2];
             v[0] += v[3], v[3] = rotated(v[3], 21) ^ v[0];

@@ -91,10 +91,7 @@ static void manage(int signals, int control) {
     uint64_t due = 0, latest = 0;   /* when files that have changed are read; 0: none has */
     for (;;) {
         uint64_t now = microseconds();
-        if (due && (now >= due || now >= latest)) {
-            due = 0;
-            renew(0);
-        }
+        if (due && (now >= due || now >= latest)) due = 0, renew(0);
         if (poll(polled, POLLED, due ? (int)((due - now) / 1000) + 1 : -1) < 0 && errno != EINTR) return;
         struct signalfd_siginfo info;
         if (polled[SIGNALS].revents && read(signals, &info, sizeof info) == sizeof info) {
@@ -157,10 +154,7 @@ int main(int argc, char **argv) {
         else if (option == 't') is_test = 1;
         else argc = 0;
     }
-    if (optind != argc) {
-        fprintf(stderr, "usage: ningkraetd [-t] [-c FILE]\n");
-        return 2;
-    }
+    if (optind != argc) return fprintf(stderr, "usage: ningkraetd [-t] [-c FILE]\n"), 2;
     sigset_t handled;
     sigemptyset(&handled);
     for (int i = 0; i < 3; i++) sigaddset(&handled, (int[]){SIGHUP, SIGINT, SIGTERM}[i]);

@@ -138,8 +138,7 @@ static int answer_frames(struct worker *worker, struct connection *c) {
         if (code == NK_TRANSFER || code == NK_NO_MORE) c->is_sending = code == NK_TRANSFER;
         else if (code != NK_DONE && code != NK_IGNORED) return 0;
         if (code != NK_DONE) continue;
-        out[made] = written >> 8;
-        out[made + 1] = written;
+        out[made] = written >> 8, out[made + 1] = written;
         made += 2 + written;
     }
     memmove(c->in, c->in + at, c->have -= at);
@@ -164,8 +163,7 @@ static int read_more(struct connection *c) {
     if (need > c->size) {
         uint8_t *grown = realloc(c->in, need);
         if (!grown) return 0;
-        c->in = grown;
-        c->size = need;
+        c->in = grown, c->size = need;
     }
     ssize_t count = recv(c->source.fd, c->in + c->have, c->size - c->have, MSG_DONTWAIT);
     if (count < 0) return errno == EAGAIN || errno == EINTR;

@@ -79,12 +79,9 @@ static size_t answer(struct worker *worker, struct udp *udp, int at, uint8_t *re
     nk_transfer none = NK_TRANSFER_NONE;   /* none begins by UDP */
     if (answer_message(worker, &none, client, NK_UDP, now, query, length, response, sizeof udp->responses[0], &written, &summary) != NK_DONE) return 0;
     enum verdict verdict = limits_take(client, &summary, query, length);
-    if (verdict != SEND) {
-        count(verdict == CUT ? &worker->counters.slipped : &worker->counters.limited, 1);
-        if (verdict == WITHHOLD) return 0;
-        written = cut(response, query, length);
-        summary.truncated = 1;
-    }
+    if (verdict == WITHHOLD || verdict == CUT) count(verdict == CUT ? &worker->counters.slipped : &worker->counters.limited, 1);
+    if (verdict == WITHHOLD) return 0;
+    if (verdict == CUT) written = cut(response, query, length), summary.truncated = 1;
     count_response(&worker->counters, written, &summary);
     log_query(client, NK_UDP, query, length, written, &summary);
     return written;

@@ -14,7 +14,7 @@
 
 #include "log.h"
 
-enum { TOLD = 1 << 16, TRIES = 100 };
+enum { TOLD = 1 << 16, TRIES = 100, KEPT = 20000 };   /* KEPT: records of what changed in a zone, for those who ask for that alone */
 
 struct file {
     char *path;
@@ -34,7 +34,8 @@ static void (*watch)(const char *folder);
 static struct zone **zones;           /* by origin */
 static size_t zone_count;
 static nk_zones loaded = NK_ZONES_NONE;
-static pthread_mutex_t lock = PTHREAD_MUTEX_INITIALIZER;   /* of `loaded` */
+static nk_steps steps = NK_STEPS_NONE; /* what changed in zones from version to version */
+static pthread_mutex_t lock = PTHREAD_MUTEX_INITIALIZER, noting = PTHREAD_MUTEX_INITIALIZER;   /* of `loaded`; of `steps` */
 static atomic_ulong renewed;
 static atomic_int holders, behind;    /* workers that have zones, and those of them that have yet to take the new ones */
 
@@ -145,16 +146,31 @@ static uint32_t load_text(nk_zones *into, struct zone *zone, const uint8_t *text
     return code;
 }
 
+/* Keeps what changed in a zone, which these have or haven't any more. Where memory is short nothing is kept: no version is to be left out. */
+static void note(nk_zones *from, const char *origin) {
+    pthread_mutex_lock(&noting);
+    if (nk_steps_note(&steps, from, (uint8_t *)origin, strlen(origin)) == NK_NO_MEMORY) {
+        log_line("%s: no memory to keep what changed", origin);
+        nk_steps_free(&steps);
+        nk_steps_new(&steps, KEPT);
+    }
+    pthread_mutex_unlock(&noting);
+}
+
+void zones_shorten(nk_transfer *transfer, const uint8_t *query, size_t length) {
+    for (int i = 0; pthread_mutex_trylock(&noting); i++)   /* another worker has it for some milliseconds; a large zone that is noted, for longer */
+        if (i == TRIES || nanosleep(&(struct timespec){0, 1000000}, NULL)) return;
+    nk_transfer_steps(transfer, &steps, query, length);
+    pthread_mutex_unlock(&noting);
+}
+
 /* Reads the file of a zone, and loads it. Tells whether it is served now as the file has it. */
 static int load(nk_zones *into, struct zone *zone) {
     static char told[TOLD + 1];
     size_t written = 0;
     drop_included(zone);
     uint8_t *text = octets_of(zone->file.path, &zone->file.read);
-    if (!text) {
-        set_fault(zone, strerror(errno));
-        return 0;
-    }
+    if (!text) return set_fault(zone, strerror(errno)), 0;
     uint32_t code = load_text(into, zone, text, told, &written);
     free(text);
     told[written] = 0;
@@ -163,6 +179,7 @@ static int load(nk_zones *into, struct zone *zone) {
         set_fault(zone, NULL);
         zone->is_served = 1;
         nk_zones_serial(into, (uint8_t *)zone->origin, strlen(zone->origin), &zone->serial);
+        note(into, zone->origin);
         if (config->ready_answers && nk_zones_prepare(into, (uint8_t *)zone->origin, strlen(zone->origin)) == NK_NO_MEMORY)
             log_line("%s: no memory to keep its answers", zone->origin);
         return 1;
@@ -244,6 +261,7 @@ size_t zones_renew(int all) {
         uint32_t dropped = is_gone && zone->is_served ? nk_zones_drop(&fresh, (uint8_t *)zone->origin, strlen(zone->origin)) : (uint32_t)NK_NO_ZONE;
         if (is_gone && dropped != NK_NO_MEMORY) {
             log_line("%s isn't served any more", zone->origin);
+            note(&fresh, zone->origin);
             changes += dropped == NK_DONE;
             free_zone(zone);
             continue;
@@ -252,16 +270,11 @@ size_t zones_renew(int all) {
         if (has_changed(zone) || all) changes += load_or_expire(&fresh, zone);
         faults += zone->fault != NULL;
     }
-    if (code != NK_DONE) {
-        log_line("zones can't be read: out of memory");
-        return zone_count;
-    }
+    if (code != NK_DONE) return log_line("zones can't be read: out of memory"), zone_count;
     zone_count = kept;
     if (changes) {
         pthread_mutex_lock(&lock);
-        old = loaded;
-        loaded = fresh;
-        fresh = old;
+        old = loaded, loaded = fresh, fresh = old;
         atomic_store(&behind, atomic_load(&holders));
         atomic_fetch_add(&renewed, 1);
         pthread_mutex_unlock(&lock);
@@ -275,7 +288,7 @@ size_t zones_renew(int all) {
 int zones_begin(const struct config *given, void (*watch_folder)(const char *folder)) {
     config = given;
     watch = watch_folder;
-    if (nk_interface() != NK_INTERFACE || nk_zones_new(&loaded) != NK_DONE) return log_line("no memory, or a library of another interface than %d", NK_INTERFACE);
+    if (nk_interface() != NK_INTERFACE || nk_zones_new(&loaded) != NK_DONE || nk_steps_new(&steps, KEPT) != NK_DONE) return log_line("no memory, or a library of another interface than %d", NK_INTERFACE);
     for (size_t i = 0; i < config->zones.count; i++) {
         const char *why = zones_add(config->zones.list[i].name, config->zones.list[i].of);
         if (why) return log_line("%s: %s", config->zones.list[i].name, why);
@@ -336,7 +349,6 @@ void zones_take(nk_zones *own, unsigned long *seen) {
 void zones_free(void) {
     for (size_t i = 0; i < zone_count; i++) free_zone(zones[i]);
     free(zones);
-    zones = NULL;
-    zone_count = 0;
+    nk_steps_free(&steps);
     nk_zones_free(&loaded);
 }

@@ -27,4 +27,7 @@ size_t zones_count(void);
 /* Gives a worker the zones that are served now, where that aren't those that it has, of which the number is `seen`; -1: it has none. */
 void zones_take(nk_zones *own, unsigned long *seen);
 
+/* Has what changed go out in place of a zone whose transfer this query began, if that is what it asks for, and it is kept. */
+void zones_shorten(nk_transfer *transfer, const uint8_t *query, size_t length);
+
 void zones_free(void);

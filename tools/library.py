@@ -65,6 +65,7 @@ WORDS = {
     "&mut DatabaseHandle": "&mut {}",
     "&mut AccessHandle": "&mut {}",
     "&mut TransferHandle": "&mut {}",
+    "&mut StepsHandle": "&mut {}",
     "&mut PlanHandle": "&mut {}",
     "&mut FilesHandle": "&mut {}",
     "&Signing": "&how",
@@ -82,6 +83,7 @@ fn main(rt: HostRuntime) -> std::process::ExitCode {{
     let alloc = rt.alloc();
     let (mut zones, mut other, mut plan) = (DatabaseHandle::empty(alloc), DatabaseHandle::empty(alloc), PlanHandle::empty(alloc));
     let (mut access, mut transfer, mut files) = (AccessHandle::empty(alloc), TransferHandle::empty(alloc), FilesHandle::empty(alloc));
+    let mut steps = StepsHandle::empty(alloc);
     let how = Signing {{ inception: 0, expiration: 0, jitter: 0, key_ttl: 0, denial: 0, iterations: 0, asks_parent: 0 }};
     let (text, mut room, mut written) = ([0u8; 8], [0u8; 8], 0usize);
     let (mut serial, mut number, mut id, mut code) = (0u32, 0u32, 0u32, 0u32);

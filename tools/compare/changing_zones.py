@@ -1,8 +1,9 @@
 #!/usr/bin/env python3
 """tools/compare/changing_zones.py [ROUNDS [FOLDER]]: a zone of 10,000 names that BIND, and then Knot DNS, signs with NSEC3, and that changes every
 second by dynamic updates (RFC 2136). secondaryd behind examples/serving/secondary.py follows it by IXFR under a key (TSIG); ningkraetd serves
-that copy; and NSD, Knot DNS and BIND, told by examples/serving/notify.py, follow ningkraetd by AXFR under the key. There are six rounds of ten
-seconds unless another number is given; after each one every server's zone of the last serial is compared with the primary's, record by record.
+that copy; and NSD, Knot DNS and BIND, told by examples/serving/notify.py, follow ningkraetd under the key. There are six rounds of ten seconds
+unless another number is given; after each one every server's zone of the last serial is compared with the primary's, record by record, and
+ningkraetd is asked what changed since the round before (IXFR): the zone that this makes of its older version is compared too.
 If a server is missing, it is left out, and a line says so. Not part of the gate: it needs cc, dig and nsupdate, and opens sockets on loopback. It
 ends what it starts.
 
@@ -50,6 +51,20 @@ def dug(port, *words, keyed=True):
     done = subprocess.run(["dig", "@127.0.0.1", "-p", str(port), *key, *words, "+noall", "+answer", "+onesoa", "+time=5", "+tries=1"], capture_output=True, text=True)
     lines = [" ".join(it.lower().split()) for it in done.stdout.splitlines()]
     return sorted(it for it in lines if it[:1] not in ("", ";") and " tsig " not in it)
+
+
+def since(port, serial, older):
+    """The lines of a zone by what a server says that changed in the older version since a serial (IXFR); none where it gives the whole zone."""
+    words = ["dig", "@127.0.0.1", "-p", str(port), "-y", f"hmac-sha256:{KEY}:{text_of(SECRET)}", ORIGIN, f"IXFR={serial}", "+noall", "+answer", "+time=5", "+tries=1"]
+    lines = [" ".join(it.lower().split()) for it in subprocess.run(words, capture_output=True, text=True).stdout.splitlines()]
+    lines = [it for it in lines if it[:1] not in ("", ";") and " tsig " not in it]
+    zone, is_added = set(older), True
+    if not any(f" {serial} " in it for it in lines[1:2]):
+        return []
+    for line in lines[1:-1]:
+        is_added ^= line.split()[3] == "soa"
+        (zone.add if is_added else zone.discard)(line)
+    return sorted(zone)
 
 
 def serial_of(port):
@@ -106,11 +121,16 @@ def wrong_of(primary, program, library, daemon, room, rounds):
         ports = {"ningkraetd": served, **followers(begun, room, served, library)}
         updates = begun.enter_context(subprocess.Popen(["nsupdate", "-k", keys], stdin=subprocess.PIPE, text=True))
         updates.stdin.write(f"server 127.0.0.1 {port}\nzone {ORIGIN}\n")
+        before, older = serial_of(served), dug(served, ORIGIN, "AXFR")
         for number in range(CHANGES * rounds):
             change(updates, number)
             time.sleep(1)
             if (number + 1) % CHANGES == 0:
                 wrong += [f"{server}, after {number + 1} changes" for server in differing(port, number, ports)]
+                newer = dug(served, ORIGIN, "AXFR")
+                if since(served, before, older) != newer:
+                    wrong.append(f"what ningkraetd says has changed, after {number + 1} changes")
+                before, older = serial_of(served), newer
         updates.stdin.close()
     return wrong
 

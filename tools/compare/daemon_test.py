@@ -270,6 +270,42 @@ def zones_expire(room):
         need("SERVFAIL" in ask(stream, "www.example.com.", "A")[0], "a zone has expired from the start on")
 
 
+def changes_are_sent(room):
+    # What stands between two versions, each with the last octet of an address; and what of a zone that goes out whole.
+    def step(older, newer):
+        return [f"SOA {older[0]}", f"192.0.2.{older[1]}", f"SOA {newer[0]}", f"192.0.2.{newer[1]}"]
+
+    def whole(serial, last):
+        return sorted([f"SOA {serial}", "192.0.2.53", "192.0.2.54", f"192.0.2.{last}", f"SOA {serial}"])
+
+    # (watched, a file might be read twice, and a version without a new serial isn't a step)
+    with Server(room, "transfer example.com", "watch off") as server:
+
+        def since(serial):
+            with server.tcp() as stream:
+                lines = [it.split() for it in ask(stream, "example.com.", "IXFR", f"serial={serial}") if it[0] != ";"]
+            return [f"SOA {it[6]}" if it[3] == "SOA" else it[-1] for it in lines if it[3] in ("SOA", "A")]
+
+        def read(*version):
+            server.write("example.com", *version)
+            need(server.control("reload")[0] == 0, f"version {version} isn't read")
+
+        need(since(1) == ["SOA 1"], f"to a client that has the zone goes {since(1)}")
+        read(2, 2)
+        read(3, 3)
+        need(since(1) == ["SOA 3", *step((1, 80), (2, 2)), *step((2, 2), (3, 3)), "SOA 3"], f"since the first version: {since(1)}")
+        need(since(2) == ["SOA 3", *step((2, 2), (3, 3)), "SOA 3"], f"since the second: {since(2)}")
+        need(sorted(since(0)) == whole(3, 3), f"since one that wasn't there: {since(0)}")
+        read(3, 4)
+        need(sorted(since(2)) == whole(3, 4), f"behind a change without a new serial: {since(2)}")
+        read(4, 5)
+        need(since(3) == ["SOA 4", *step((3, 4), (4, 5)), "SOA 4"], f"since that: {since(3)}")
+        os.remove(f"{server.folder}/zones/example.com.zone")
+        need(server.control("reload")[0] == 0 and since(3) == [], f"of a zone that went: {since(3)}")
+        read(5, 6)
+        need(sorted(since(4)) == whole(5, 6), f"of one that came back: {since(4)}")
+
+
 def files_are_included(room):
     with Server(room) as server, server.udp() as stream:
         parts = f"{server.folder}/parts"
@@ -470,7 +506,7 @@ def queries_are_logged(room):
         need(line["zone"] == "example.com." and refused["zone"] is None and refused["kind"] == "refused", refused)
 
 
-TESTS = [faults_are_told, both_ways_are_answered, the_address_that_was_asked_answers, reloads_lose_nothing, zones_come_and_go, zones_expire, files_are_included,
+TESTS = [faults_are_told, both_ways_are_answered, the_address_that_was_asked_answers, reloads_lose_nothing, zones_come_and_go, zones_expire, changes_are_sent, files_are_included,
          clients_have_limits, descriptors_run_out, responses_have_a_rate, queries_are_logged, floods_are_survived, many_zones_start_soon]
 
 

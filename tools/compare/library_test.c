@@ -435,10 +435,92 @@ static int datagrams(nk_zones *zones, long count) {
     return codes[NK_DONE] + codes[NK_IGNORED] != count;
 }
 
+/* A query for what changed in the zone since a serial below 256 (IXFR), and its length. */
+static size_t changes_of(uint8_t *query, uint8_t serial) {
+    static const uint8_t soa[34] = {192, 12, 0, 6, 0, 1, 0, 0, 0, 0, 0, 22};
+    size_t length = query_of(query, "", 251) - 11 - 1;
+    memmove(query + 12, query + 13, length - 12);
+    memcpy(query + length, soa, sizeof soa);
+    query[2] = 0, query[9] = 1, query[11] = 0, query[length + 17] = serial;
+    return length + sizeof soa;
+}
+
+static uint32_t note(nk_steps *steps, nk_zones *zones, const char *origin) { return nk_steps_note(steps, zones, (const uint8_t *)origin, strlen(origin)); }
+
+/* The answer to it. */
+static uint32_t begin_changes(nk_transfer *transfer, nk_zones *zones, uint8_t serial, uint8_t *query, size_t *length) {
+    size_t written;
+    *length = changes_of(query, serial);
+    nk_message message = {.octets = query, .octets_length = *length, .moment = 1000, .limit = 1232, .transport = NK_TCP};
+    return nk_transfer_begin(transfer, zones, &access, &message, room, sizeof room, &written);
+}
+
+/* The same, and whether what changed goes out. */
+static uint32_t ask_changes(nk_transfer *transfer, nk_zones *zones, nk_steps *steps, uint8_t serial, uint32_t *sent) {
+    uint8_t query[192];
+    size_t length;
+    uint32_t code = begin_changes(transfer, zones, serial, query, &length);
+    *sent = nk_transfer_steps(transfer, steps, query, length);
+    return code;
+}
+
+/* The version behind `text`: another address, and no alias. */
+static const char *const next_text =
+    "$TTL 60\n@ SOA ns host 8 2 3 4 5\n@ NS ns\n@ MX 5 www\nns A 192.0.2.1\nwww TXT \"a\" \"b\"\nwww A 192.0.2.9\n"
+    "cut NS ns.cut\nns.cut A 192.0.2.5\n*.wild 30 A 192.0.2.2\n*.wild A 192.0.2.3\n";
+
+/* The same for what changed in zones. */
+static int changes(void) {
+    nk_zones zones = NK_ZONES_NONE;
+    nk_steps steps = NK_STEPS_NONE;
+    nk_transfer transfer = NK_TRANSFER_NONE;
+    size_t written;
+    uint32_t sent;
+    IS(note(&steps, &zones, ORIGIN) == NK_NO_STEPS && nk_steps_new(&steps, 100) == NK_DONE && note(&steps, &zones, ORIGIN) == NK_CLOSED && nk_zones_new(&zones) == NK_DONE);
+    IS(note(&steps, &zones, ORIGIN) == NK_NO_ZONE && note(&steps, &zones, "a..b") == NK_BAD_NAME && nk_transfer_steps(&transfer, &steps, room, 0) == NK_NO_TRANSFER);
+    IS(load(&zones, 0, ORIGIN, text, &written) == NK_DONE && note(&steps, &zones, ORIGIN) == NK_DONE && load(&zones, 0, ORIGIN, next_text, &written) == NK_DONE && read_keys("", &written) == NK_DONE && allow(ORIGIN, "") == NK_DONE);
+    IS(ask_changes(&transfer, &zones, &steps, 7, &sent) == NK_TRANSFER && sent == NK_NO_STEPS && note(&steps, &zones, ORIGIN) == NK_DONE);   /* it wasn't noted */
+    IS(ask_changes(&transfer, &zones, &steps, 7, &sent) == NK_TRANSFER && sent == NK_DONE && nk_transfer_steps(&transfer, &steps, room, 0) == NK_NO_STEPS);
+    /* Between two SOA records the older one, an address and an alias, the newer one, and an address. */
+    IS(nk_transfer_next(&transfer, 1000, room, sizeof room, &written) == NK_DONE && room[2] == 132 && !(room[3] & 15) && room[7] == 7);
+    IS(nk_transfer_next(&transfer, 1000, room, sizeof room, &written) == NK_NO_MORE && ask_changes(&transfer, &zones, &steps, 8, &sent) == NK_DONE && sent == NK_NO_TRANSFER);
+    IS(ask_changes(&transfer, &zones, &steps, 6, &sent) == NK_TRANSFER && sent == NK_NO_STEPS && nk_transfer_next(&transfer, 1000, room, sizeof room, &written) == NK_DONE && room[7] == 11);
+    IS(ask_zone(&transfer, &zones, 0, 1000, NK_TCP, sizeof room, &written) == NK_TRANSFER && nk_transfer_steps(&transfer, &steps, room, changes_of(room, 7)) == NK_NO_STEPS);
+    IS(nk_steps_new(&steps, 4) == NK_DONE && load(&zones, 0, ORIGIN, text, &written) == NK_DONE && note(&steps, &zones, ORIGIN) == NK_DONE && load(&zones, 0, ORIGIN, next_text, &written) == NK_DONE);
+    IS(note(&steps, &zones, ORIGIN) == NK_DONE && ask_changes(&transfer, &zones, &steps, 7, &sent) == NK_TRANSFER && sent == NK_NO_STEPS && drop(&zones, ORIGIN) == NK_DONE && note(&steps, &zones, ORIGIN) == NK_NO_ZONE);
+    nk_steps_free(&steps), nk_steps_free(&steps);
+    IS(nk_transfer_steps(&transfer, &steps, room, 0) == NK_NO_STEPS && note(&steps, &zones, ORIGIN) == NK_NO_STEPS);
+    nk_transfer_free(&transfer), nk_access_free(&access), nk_zones_free(&zones);
+    return 0;
+}
+
+/* Those where each allocation fails in turn. */
+static int change_failures(void) {
+    nk_zones zones = NK_ZONES_NONE;
+    nk_steps steps = NK_STEPS_NONE;
+    nk_transfer transfer = NK_TRANSFER_NONE;
+    uint8_t query[192];
+    size_t written, length;
+    uint32_t code;
+    int refused = 0;
+    IS(nk_zones_new(&zones) == NK_DONE && load(&zones, 0, ORIGIN, text, &written) == NK_DONE && read_keys("", &written) == NK_DONE && allow(ORIGIN, "") == NK_DONE);
+    for (long nth = 1; (left = nth, code = nk_steps_new(&steps, 100), left = -1, code) != NK_DONE; nth++, refused++) IS(code == NK_NO_MEMORY && note(&steps, &zones, ORIGIN) == NK_NO_STEPS);
+    for (long nth = 1; (left = nth, code = note(&steps, &zones, ORIGIN), left = -1, code) != NK_DONE; nth++, refused++) IS(code == NK_NO_MEMORY);
+    IS(load(&zones, 0, ORIGIN, next_text, &written) == NK_DONE);
+    for (long nth = 1; (left = nth, code = note(&steps, &zones, ORIGIN), left = -1, code) != NK_DONE; nth++, refused++) IS(code == NK_NO_MEMORY);
+    IS(begin_changes(&transfer, &zones, 7, query, &length) == NK_TRANSFER);
+    for (long nth = 1; (left = nth, code = nk_transfer_steps(&transfer, &steps, query, length), left = -1, code) != NK_DONE; nth++, refused++) IS(code == NK_NO_MEMORY);
+    for (long nth = 1; (left = nth, code = nk_transfer_next(&transfer, 1000, room, sizeof room, &written), left = -1, code) != NK_DONE; nth++, refused++) IS(code == NK_NO_MEMORY && !written);
+    IS(room[7] == 7);
+    if (refused) printf("%d times no memory for what changed\n", refused);
+    nk_transfer_free(&transfer), nk_access_free(&access), nk_steps_free(&steps), nk_zones_free(&zones);
+    return 0;
+}
+
 int main(int argc, char **argv) {
     nk_zones zones = NK_ZONES_NONE;
     memset(before, 85, sizeof before);
-    int status = refusals() || expiry() || included() || notified() || plan_refusals() || transfers() || cookies() || failures(&zones) || datagrams(&zones, argc > 1 ? atol(argv[1]) : 0) || transfer_failures(&zones) || plan_failures(&zones);
+    int status = refusals() || expiry() || included() || notified() || plan_refusals() || transfers() || changes() || cookies() || failures(&zones) || datagrams(&zones, argc > 1 ? atol(argv[1]) : 0) || transfer_failures(&zones) || plan_failures(&zones) || change_failures();
     nk_zones_free(&zones);
     return status;
 }

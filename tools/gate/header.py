@@ -26,6 +26,7 @@ KINDS = {
     "&mut DatabaseHandle": ["nk_zones *"],
     "&mut AccessHandle": ["nk_access *"],
     "&mut TransferHandle": ["nk_transfer *"],
+    "&mut StepsHandle": ["nk_steps *"],
     "&mut PlanHandle": ["nk_plan *"],
     "&mut FilesHandle": ["nk_files *"],
     "&Signing": ["const nk_signing *"],

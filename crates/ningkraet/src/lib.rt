@@ -9,6 +9,7 @@ ghost use Rattle.zone_database.specs.Calls.{transport_of, AnswersHeld, AsksHeld,
 ghost use Rattle.zone_database.specs.Outcomes.{code_of, Codes};
 ghost use Rattle.transfer_calls.specs.Accesses.{AllowsHeld, ReadsAccess};
 ghost use Rattle.transfer_calls.specs.Outcomes.{Codes as TransferCodes};
+ghost use Rattle.transfer_calls.specs.Steps.{BeginsSteps, NotesHeld, ShortensHeld};
 ghost use Rattle.transfer_calls.specs.Transfers.{AnswersMessage, GivesMessage};
 ghost use Rattle.message_notify.specs.Notifies.{response_of};
 ghost use Rattle.notify_calls.specs.NotifyCalls.{ReadsResponse, WritesNotify};
@@ -25,7 +26,7 @@ use file_calls::FilesHandle;
 use notify_calls::calls as notifies;
 use plan_calls::{PlanHandle, Signing, calls as plans};
 use std::alloc::Global;
-use transfer_calls::{AccessHandle, TransferHandle};
+use transfer_calls::{AccessHandle, StepsHandle, TransferHandle};
 use zone_database::{DatabaseHandle, calls};
 
 /// The number of the interface. It grows where a call or a code changes or goes.
@@ -259,12 +260,58 @@ pub extern "C" fn nk_transfer_next(
     transfer_calls::next(alloc, transfer, now, buffer, written).code()
 }
 
+/// Has steps go out in place of a zone whose transfer began: those that the one lacks who asked by this message.
+#[unsafe(no_mangle)]
+pub extern "C" fn nk_transfer_steps(
+    alloc: Global,
+    transfer: &mut TransferHandle,
+    steps: &mut StepsHandle,
+    message: &[u8],
+) -> u32
+    ensures sent { TransferCodes result (λ o. ShortensHeld steps.old.held message.now
+        transfer.old.held o transfer.new.held) }
+    ensures steps { steps.new.held ≡ steps.old.held }
+{
+    transfer_calls::shorten(alloc, transfer, steps, message).code()
+}
+
 /// Gives the memory of the transfer that is kept back. None is kept then.
 #[unsafe(no_mangle)]
 pub extern "C" fn nk_transfer_free(alloc: Global, transfer: &mut TransferHandle)
     ensures { transfer.new.held ≡ None }
 {
     transfer_calls::free(alloc, transfer)
+}
+
+/// Keeps the steps of no zone in place of what is kept, and says how many records those of one zone may have.
+#[unsafe(no_mangle)]
+pub extern "C" fn nk_steps_new(alloc: Global, steps: &mut StepsHandle, most: u32) -> u32
+    ensures { Codes result (λ o. BeginsSteps most steps.old.held o steps.new.held) }
+{
+    transfer_calls::new_steps(alloc, steps, most).code()
+}
+
+/// Keeps the step to the version of the zone of an origin that is kept, from the one that was noted before.
+#[unsafe(no_mangle)]
+pub extern "C" fn nk_steps_note(
+    alloc: Global,
+    steps: &mut StepsHandle,
+    zones: &mut DatabaseHandle,
+    origin: &[u8],
+) -> u32
+    ensures noted { TransferCodes result (λ o.
+        NotesHeld origin.now zones.old.held steps.old.held o steps.new.held) }
+    ensures zones { zones.new.held ≡ zones.old.held }
+{
+    transfer_calls::note_zone(alloc, steps, zones, origin).code()
+}
+
+/// Gives the memory of the steps that are kept back. None are kept then.
+#[unsafe(no_mangle)]
+pub extern "C" fn nk_steps_free(alloc: Global, steps: &mut StepsHandle)
+    ensures { steps.new.held ≡ None }
+{
+    transfer_calls::free_steps(alloc, steps)
 }
 
 /// Writes the NOTIFY for the zone of an origin into the room.
