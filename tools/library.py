@@ -81,10 +81,10 @@ WORDS = {
 PROGRAM = """
 fn main(rt: HostRuntime) -> std::process::ExitCode {{
     let alloc = rt.alloc();
-    let (mut zones, mut other, mut plan) = (DatabaseHandle::empty(alloc), DatabaseHandle::empty(alloc), PlanHandle::empty(alloc));
-    let (mut access, mut transfer, mut files) = (AccessHandle::empty(alloc), TransferHandle::empty(alloc), FilesHandle::empty(alloc));
-    let mut steps = StepsHandle::empty(alloc);
-    let how = Signing {{ inception: 0, expiration: 0, jitter: 0, key_ttl: 0, denial: 0, iterations: 0, asks_parent: 0 }};
+    let (mut zones, mut other, mut plan) = (DatabaseHandle::empty(alloc), DatabaseHandle::empty(alloc), plan_calls::PlanHandle::empty(alloc));
+    let (mut access, mut transfer, mut steps) = (AccessHandle::empty(alloc), TransferHandle::empty(alloc), StepsHandle::empty(alloc));
+    let mut files = file_calls::FilesHandle::empty(alloc);
+    let how = plan_calls::Signing {{ inception: 0, expiration: 0, jitter: 0, key_ttl: 0, denial: 0, iterations: 0, asks_parent: 0 }};
     let (text, mut room, mut written) = ([0u8; 8], [0u8; 8], 0usize);
     let (mut serial, mut number, mut id, mut code) = (0u32, 0u32, 0u32, 0u32);
     let settings = ServerSettings {{ nsid: &text, secrets: &text, cookies_required: 0 }};
@@ -96,19 +96,26 @@ fn main(rt: HostRuntime) -> std::process::ExitCode {{
 """
 
 
+def texts(name):
+    """The texts of a static library's source and of the modules that it names, by their names."""
+    text = sources.read(f"crates/{name}/src/lib.rt")
+    return {"lib": text} | {it: sources.read(f"crates/{name}/src/{it}.rt") for it in re.findall(r"^pub mod (\w+);", text, re.M)}
+
+
 def as_program(name):
-    """The source of a static library as that of a program that calls each of its exports."""
-    text, calls = sources.read(f"crates/{name}/src/lib.rt"), ""
-    for export, parameters, result in re.findall(r'extern "C" fn (\w+)\(([^)]*)\)( -> u32)?', text):
-        named = [it.split(":", 1) for it in parameters.split(",") if it.strip()]
-        words = [WORDS.get(kind.strip(), "0").format(name.strip()) for name, kind in named]
-        call = f"{export}({', '.join(words)})"
-        calls += f"    worst = worst.max({call});\n" if result else f"    {call};\n"
-    return text + PROGRAM.format(calls=calls)
+    """The sources of a static library as those of a program that calls each of its exports, by the names of their files."""
+    files, calls = texts(name), ""
+    for file, text in files.items():
+        for export, parameters, result in re.findall(r'extern "C" fn (\w+)\(([^)]*)\)( -> u32)?', text):
+            named = [it.split(":", 1) for it in parameters.split(",") if it.strip()]
+            words = [WORDS.get(kind.strip(), "0").format(name.strip()) for name, kind in named]
+            call = f"{'' if file == 'lib' else f'{file}::'}{export}({', '.join(words)})"
+            calls += f"    worst = worst.max({call});\n" if result else f"    {call};\n"
+    return {"main": files.pop("lib") + PROGRAM.format(calls=calls), **files}
 
 
 def with_exports(name, module):
     """The text of a program's module with the library's exports under their names in C, and without a main."""
-    module = re.sub(rf'^define internal (.*@)"{name}::(nk_\w+)"', r"define \1\2", module, flags=re.M)
-    module = re.sub(rf'@"{name}::(nk_\w+)"', r"@\1", module)
+    module = re.sub(rf'^define internal (.*@)"{name}::(?:\w+::)?(nk_\w+)"', r"define \1\2", module, flags=re.M)
+    module = re.sub(rf'@"{name}::(?:\w+::)?(nk_\w+)"', r"@\1", module)
     return re.sub(r"^define (\w+ @)main\(", r"define internal \1nk_unused(", module, flags=re.M)

@@ -11,9 +11,11 @@ import sys
 sys.dont_write_bytecode = True
 sys.path.append(os.path.dirname(os.path.dirname(os.path.realpath(__file__))))
 
+import library
 import sources
 
-HEADER, EXPORTS, CODES = "include/ningkraet.h", "crates/ningkraet/src/lib.rt", "crates/zone_database/src/outcome.rt"
+EXPORTS = "\n".join(library.texts("ningkraet").values())
+HEADER, CODES = "include/ningkraet.h", "crates/zone_database/src/outcome.rt"
 # The files of the codes that calls on plans and on transfers have besides, and that of how a zone is to be signed.
 PLAN_CODES, TRANSFER_CODES, SIGNING = "crates/plan_calls/src/outcome.rt", "crates/transfer_calls/src/outcome.rt", "crates/plan_calls/src/signing.rt"
 # Those of calls about files, and why a file can't be read.
@@ -46,7 +48,7 @@ KINDS = {
 def exported():
     """The exports: what each gives and takes, as C sees it."""
     found = {}
-    for name, parameters, result in re.findall(r'extern "C" fn (\w+)\(([^)]*)\)(?: -> (\w+))?', sources.read(EXPORTS)):
+    for name, parameters, result in re.findall(r'extern "C" fn (\w+)\(([^)]*)\)(?: -> (\w+))?', EXPORTS):
         kinds = [it.split(":", 1)[1].strip() for it in parameters.split(",") if it.strip()]
         found[name] = (KINDS[result][0] if result else "void", [it for kind in kinds for it in KINDS[kind]])
     return found
@@ -121,7 +123,7 @@ def differences(text):
     if there != here:
         yield f"the header has the numbers {there}, and the library {here}"
     interface = re.search(r"^#define NK_INTERFACE (\d+)$", text, re.M).group(1)
-    if not re.search(r"fn nk_interface\(\) -> u32\n    ensures \{ result ≡ " + interface + r" \}", sources.read(EXPORTS)):
+    if not re.search(r"fn nk_interface\(\) -> u32\n    ensures \{ result ≡ " + interface + r" \}", EXPORTS):
         yield f"NK_INTERFACE is {interface} in the header, and another in the library"
 
 

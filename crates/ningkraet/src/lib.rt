@@ -1,9 +1,9 @@
 //! The zones of a server for programs that aren't written in Rattle: what `include/ningkraet.h` declares, each by one call of
-//! `zone_database`, `arrival_calls`, `transfer_calls`, `notify_calls`, `expiry_calls`, `plan_calls` or `file_calls`. C passes no allocator; to C a slice is a
-//! pointer and a length, and a `&mut` a pointer.
+//! `zone_database`, `arrival_calls`, `transfer_calls`, `notify_calls`, `expiry_calls`, `plan_calls` or `file_calls`. C passes no allocator; to C
+//! a slice is a pointer and a length, and a `&mut` a pointer.
 #![tactic(auto)]
 
-ghost use Rattle.std.specs.Prelude.{◌≡◌, [], None, Err, Ok};
+ghost use Rattle.std.specs.Prelude.{◌≡◌, [], None};
 ghost use Rattle.arrival_calls.specs.ArrivalCalls.{AnswersClient};
 ghost use Rattle.zone_database.specs.Calls.{transport_of, AnswersHeld, AsksHeld, ChangesHeld, IsAdded, IsCreated, IsDropped, IsLoaded, IsPrepared, IsSerial, IsReported};
 ghost use Rattle.zone_database.specs.Outcomes.{code_of, Codes};
@@ -14,17 +14,12 @@ ghost use Rattle.transfer_calls.specs.Transfers.{AnswersMessage, GivesMessage};
 ghost use Rattle.message_notify.specs.Notifies.{response_of};
 ghost use Rattle.notify_calls.specs.NotifyCalls.{ReadsResponse, WritesNotify};
 ghost use Rattle.expiry_calls.specs.Expiry.{Expires};
-ghost use Rattle.plan_calls.specs.Calls.{BeginsHeld, FinishesHeld, GivesHeld, TakesHeld};
-ghost use Rattle.plan_calls.specs.Outcomes.{Codes as PlanCodes};
-ghost use Rattle.included_texts.specs.Kept.{files_of, IsSame};
-ghost use Rattle.file_calls.specs.Calls.{GivesName, KeepsFile, kept_in, wanted_in};
-ghost use Rattle.file_calls.specs.Loading.{IsReported as IsReportedOfFiles, IsWanting, LoadsHeld};
-ghost use Rattle.file_calls.specs.Outcomes.{Codes as FileCodes, lack_of};
+
+pub mod plans;
+pub mod zone_files;
 
 use arrival_calls::{ClientMessage, ServerSettings, SummaryNumbers, answer_client};
-use file_calls::FilesHandle;
 use notify_calls::calls as notifies;
-use plan_calls::{PlanHandle, Signing, calls as plans};
 use std::alloc::Global;
 use transfer_calls::{AccessHandle, StepsHandle, TransferHandle};
 use zone_database::{DatabaseHandle, calls};
@@ -336,151 +331,4 @@ pub extern "C" fn nk_notify_read(message: &[u8], id: &mut u32, code: &mut u32) -
         ReadsResponse (response_of message.now) o id.old id.new code.old code.new) }
 {
     notifies::read_response(message, id, code).code()
-}
-
-/// Plans the zone of an origin, to be signed by these keys, in place of the plan that is kept. No zone changes.
-#[unsafe(no_mangle)]
-pub extern "C" fn nk_plan_begin(
-    alloc: Global,
-    plan: &mut PlanHandle,
-    zones: &mut DatabaseHandle,
-    origin: &[u8],
-    keys: &[u8],
-    how: &Signing,
-    salt: &[u8],
-) -> u32
-    ensures begun { PlanCodes result (λ o.
-        BeginsHeld origin.now keys.now how.now salt.now zones.old.held plan.old.held o
-        plan.new.held) }
-    ensures same { zones.new.held ≡ zones.old.held }
-{
-    plans::begin(alloc, zones, plan, origin, keys, how, salt).code()
-}
-
-/// Writes what is to be signed next into the room, and the number of its key.
-#[unsafe(no_mangle)]
-pub extern "C" fn nk_plan_next(
-    alloc: Global,
-    plan: &mut PlanHandle,
-    number: &mut u32,
-    buffer: &mut [u8],
-    written: &mut usize,
-) -> u32
-    ensures { PlanCodes result (λ o.
-        GivesHeld plan.old.held o
-        (record {
-          number_before = number.old;
-          number = number.new;
-          written = written.new;
-          before = buffer.old;
-          after = buffer.new;
-        })
-        plan.new.held) }
-{
-    plans::next(alloc, plan, number, buffer, written).code()
-}
-
-/// Takes the next signature.
-#[unsafe(no_mangle)]
-pub extern "C" fn nk_plan_sign(alloc: Global, plan: &mut PlanHandle, signature: &[u8]) -> u32
-    ensures { PlanCodes result (λ o.
-        TakesHeld signature.now plan.old.held o plan.new.held) }
-{
-    plans::sign(alloc, plan, signature).code()
-}
-
-/// Puts the signed zone in place of the one that was planned, and gives the memory of the plan back.
-#[unsafe(no_mangle)]
-pub extern "C" fn nk_plan_finish(
-    alloc: Global,
-    plan: &mut PlanHandle,
-    zones: &mut DatabaseHandle,
-) -> u32
-    ensures { PlanCodes result (λ o.
-        FinishesHeld plan.old.held zones.old.held o plan.new.held zones.new.held) }
-{
-    plans::finish(alloc, plan, zones).code()
-}
-
-/// Gives the memory of the plan that is kept back. Nothing is kept then.
-#[unsafe(no_mangle)]
-pub extern "C" fn nk_plan_free(alloc: Global, plan: &mut PlanHandle)
-    ensures { plan.new.held ≡ None }
-{
-    plans::free(alloc, plan)
-}
-
-/// Keeps the text of the file of a name, in place of what is kept of it.
-#[unsafe(no_mangle)]
-pub extern "C" fn nk_files_put(
-    alloc: Global,
-    files: &mut FilesHandle,
-    name: &[u8],
-    text: &[u8],
-) -> u32
-    ensures { FileCodes result (λ o.
-        KeepsFile name.now (Ok text.now) files.old.held o files.new.held) }
-{
-    file_calls::put(alloc, files, name, text).code()
-}
-
-/// Keeps of the file of a name that it can't be read, and why, in place of what is kept of it.
-#[unsafe(no_mangle)]
-pub extern "C" fn nk_files_lack(
-    alloc: Global,
-    files: &mut FilesHandle,
-    name: &[u8],
-    why: u32,
-) -> u32
-    ensures { FileCodes result (λ o.
-        KeepsFile name.now (Err (lack_of why)) files.old.held o files.new.held) }
-{
-    file_calls::lack(alloc, files, name, why).code()
-}
-
-/// Writes the next name of those that are wanted into the room, and takes it off them.
-#[unsafe(no_mangle)]
-pub extern "C" fn nk_files_next(
-    alloc: Global,
-    files: &mut FilesHandle,
-    buffer: &mut [u8],
-    written: &mut usize,
-) -> u32
-    ensures name { FileCodes result (λ o.
-        GivesName (wanted_in files.old.held) o written.new buffer.old buffer.new
-        (wanted_in files.new.held)) }
-    ensures kept { IsSame (kept_in files.old.held) (kept_in files.new.held) }
-{
-    file_calls::next(alloc, files, buffer, written).code()
-}
-
-/// Gives the memory of what is kept of files back. Nothing is kept then.
-#[unsafe(no_mangle)]
-pub extern "C" fn nk_files_free(alloc: Global, files: &mut FilesHandle)
-    ensures { files.new.held ≡ None }
-{
-    file_calls::free(alloc, files)
-}
-
-/// Puts the zone that a file makes, with those that it includes, in place of the one of its origin, or among the others, and writes what is
-/// reported about the files into the room.
-#[unsafe(no_mangle)]
-pub extern "C" fn nk_zones_load_files(
-    alloc: Global,
-    zones: &mut DatabaseHandle,
-    files: &mut FilesHandle,
-    origin: &[u8],
-    file: &[u8],
-    text: &[u8],
-    buffer: &mut [u8],
-    written: &mut usize,
-) -> u32
-    ensures loaded { FileCodes result (λ o.
-        LoadsHeld (files_of file.now text.now (kept_in files.old.held)) origin.now file.now
-        zones.old.held o zones.new.held
-        × IsWanting o (wanted_in files.new.held)
-        × IsReportedOfFiles o written.new buffer.old buffer.new) }
-    ensures kept { IsSame (kept_in files.old.held) (kept_in files.new.held) }
-{
-    file_calls::load(alloc, zones, files, origin, file, text, buffer, written).code()
 }
