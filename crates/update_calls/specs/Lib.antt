@@ -1,0 +1,5 @@
+pub mod Accesses
+pub mod Holding
+pub mod Laws
+pub mod Outcomes
+pub mod Updates
