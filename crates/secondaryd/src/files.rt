@@ -1,13 +1,13 @@
 //! The files that the program reads: a key, and the zone that it wrote before.
-ghost use Rattle.std.specs.Prelude.{◌≡◌, List, ℕ, None, Some, map, IfOk, IfSome};
+ghost use Rattle.std.specs.Prelude.{◌≡◌, List, ℕ, Some, map, IfOk, IfSome};
 ghost use Rattle.zone_proto.specs.Names.{lower};
 ghost use Rattle.transferred_zones.specs.TransferredZones.{IsZoneOf};
 ghost use Rattle.secondaryd.specs.Files.{given_in, AreRecordsOf, IsZoneOfFile};
 
+use host_texts::{read_file, refuse, refuse_unread};
 use key_files::{KeyEntry, KeyFileError, read_keys};
 use message_tsig::{Key, KeyZones};
 use std::alloc::{AllocError, Global};
-use std::fmt::Display;
 use std::fs;
 use std::io::{Read, Write};
 use transferred_zones::zone_of;
@@ -15,27 +15,11 @@ use zone_file::{FaultText, InputError, PlacedRecord, read_zone};
 use zone_map::RecordMap;
 use zone_proto::{Name, Record};
 
-/// What is told of a file that can't be read.
-const UNREAD: &str = "the file can't be read";
-
-/// Tells what is wrong with a word or a file.
-pub fn refuse<T, E: Write, W: Display>(fault: &mut E, word: &str, why: &W) -> Option<T>
-    ensures { result ≡ None }
-{
-    let _ = write!(fault, "{word}: {why}\n");
-    None
-}
-
 /// The first key of a file. None if there is none; why is told.
 pub fn read_key<E: Write>(rt: &HostRuntime, file: &str, fault: &mut E) -> Option<Key> {
     let alloc = rt.alloc();
     let mut text = Vec::new(alloc);
-    let Ok(mut input) = fs::open(rt, file) else {
-        return refuse(fault, file, &UNREAD);
-    };
-    if input.read_to_end(&mut text).is_err() {
-        return refuse(fault, file, &UNREAD);
-    }
+    read_file(rt, file, &mut text, fault)?;
     match read_keys(alloc, text.as_slice()) {
         Ok(entries) => match entries.into_iter().next() {
             Some(entry) => Some(key_of(entry)),
@@ -73,7 +57,7 @@ pub fn read_zone_file<E: Write>(
 ) -> Option<RecordMap> {
     match fs::open(rt, file) {
         Ok(mut input) => zone_in(rt.alloc(), file, origin, &mut input, fault),
-        Err(_) => refuse(fault, file, &UNREAD),
+        Err(e) => refuse_unread(fault, file, e.kind()),
     }
 }
 
@@ -115,7 +99,7 @@ fn records_in<R: Read, E: Write>(
             Err(_) => refuse(fault, file, &"out of memory"),
         },
         Err(InputError::Memory) => refuse(fault, file, &"out of memory"),
-        Err(InputError::Input(_)) => refuse(fault, file, &UNREAD),
+        Err(InputError::Input(kind)) => refuse_unread(fault, file, kind),
         Err(InputError::Fault(found)) => {
             let text = FaultText {
                 file,

@@ -33,24 +33,17 @@ mod starting;
 mod version;
 mod zone_text;
 
+use host_texts::{arguments, tell};
 use serving::serve;
-use starting::{Wanted, begin, tell, wanted_by};
-use std::alloc::AllocError;
+use starting::{Wanted, begin, wanted_by};
+use std::io;
 use std::process::ExitCode;
-use std::{env, io};
 
 const USAGE: &[u8] = b"usage: secondaryd ORIGIN [--keys FILE] [--zone FILE MOMENT]\n";
 
 fn main(rt: HostRuntime) -> ExitCode {
-    let alloc = rt.alloc();
-    let args = match env::args(&rt) {
-        Ok(words) => words.skip(1).collect::<Vec<String>>(alloc),
-        // Arguments that aren't text are as wrong as none.
-        Err(e) if e.kind() == io::ErrorKind::InvalidData => Ok(Vec::new(alloc)),
-        Err(_) => Err(AllocError),
-    };
     let mut fault = rt.stderr();
-    let Ok(args) = args else {
+    let Ok(args) = arguments(&rt) else {
         return ExitCode::from(tell(&mut fault, b"out of memory\n"));
     };
     let status = match wanted_by(args.as_slice()) {

@@ -1,8 +1,8 @@
 //! How the program begins: its words, and the secondary that they ask for.
-ghost use Rattle.std.specs.Prelude.{◌≡◌};
 
-use crate::files::{read_key, read_zone_file, refuse};
+use crate::files::{read_key, read_zone_file};
 use crate::following::Following;
+use host_texts::refuse;
 use std::io::Write;
 use zone_proto::{LowerName, Name};
 
@@ -39,14 +39,6 @@ pub fn wanted_by(words: &[String]) -> Option<Wanted<'_>> {
         keys,
         zone,
     })
-}
-
-/// Tells why the program ends, and gives the status for it.
-pub fn tell<E: Write>(fault: &mut E, why: &[u8]) -> u8
-    ensures { result ≡ 2 }
-{
-    let _ = fault.write_all(why);
-    2
 }
 
 /// The secondary that is wanted. None if it can't begin; why is told.
