@@ -98,6 +98,8 @@ enum {
     NK_TRANSFER = 35,     /* the messages of a zone follow */
     NK_NO_TRANSFER = 36,  /* there is no transfer: none was begun, or it came to its end, or was freed */
     NK_NO_STEPS = 37,     /* there is no nk_steps: none was begun, or it was freed; or it lacks what a client needs */
+    NK_NO_UPDATE = 38,    /* the message is no update: nk_transfer_begin, nk_zones_answer or nk_zones_answer_client answers it */
+    NK_BAD_SCOPE = 39,    /* the scope of a rule is none of NK_NAME to NK_OWN_SUBDOMAIN */
     NK_WANTS_FILES = 40,  /* files are included of which there is no text yet: nk_files_next hands out their names */
     NK_NO_FILE = 41,      /* no file is wanted */
     NK_BAD_FILE_NAME = 42 /* the name of a file isn't UTF-8 */
@@ -133,6 +135,30 @@ typedef struct nk_steps {
 } nk_steps;
 
 #define NK_STEPS_NONE {0}
+
+/* Keys, and rules of who may change what in which zone; or none. The rules for an nk_zones hold for them too. */
+typedef struct nk_updates {
+    void *kept;
+} nk_updates;
+
+#define NK_UPDATES_NONE {0}
+
+/* Which names a rule is about: its own, that and all below it, that of the key, or that and all below it. */
+enum { NK_NAME = 0, NK_SUBDOMAIN = 1, NK_OWN_NAME = 2, NK_OWN_SUBDOMAIN = 3 };
+
+/* A rule of who may change what in a zone. A final dot of a name may be omitted. */
+typedef struct nk_rule {
+    const uint8_t *origin;          /* the zone's */
+    size_t origin_length;
+    const uint8_t *key;             /* the name of the key whose owner it is about */
+    size_t key_length;
+    const uint8_t *name;            /* its own, for NK_NAME and NK_SUBDOMAIN; else any name, such as "." */
+    size_t name_length;
+    const uint16_t *types;          /* the types that it is about, 255 being each; none: each but SOA and NS. It is never about NSEC, NSEC3, */
+    size_t types_length;            /* NSEC3PARAM and RRSIG. This length is their number. */
+    uint32_t scope;                 /* NK_NAME to NK_OWN_SUBDOMAIN */
+    uint32_t denies;                /* 0: it grants what it is about; else it denies it */
+} nk_rule;
 
 /* A plan of a zone that is being signed, or none. The rules for an nk_zones hold for it too. */
 typedef struct nk_plan {
@@ -352,14 +378,52 @@ void nk_transfer_free(nk_transfer *transfer);
 uint32_t nk_steps_new(nk_steps *steps, uint32_t most);
 
 /* Keeps what changed in the zone with this origin from the version that was noted before to the one that these zones have. Call it for each version
- * that is loaded, from the first on, and again after NK_NO_MEMORY; clients may have the older version meanwhile. It reads both versions once, and
- * copies the RRsets that changed. The oldest changes go where there are too many records; all go where the serial isn't newer than before (RFC
- * 1982). The version that was noted last stays in memory, once, whether or not an nk_zones has it: call it after nk_zones_drop too.
+ * that is loaded or updated, from the first on, and again after NK_NO_MEMORY; clients may have the older version meanwhile. It reads both versions
+ * once, and copies the RRsets that changed. The oldest changes go where there are too many records; all go where the serial isn't newer than before
+ * (RFC 1982). The version that was noted last stays in memory, once, whether or not an nk_zones has it: call it after nk_zones_drop too.
  * NK_DONE; NK_NO_ZONE, and what was noted of this origin is forgotten; NK_BAD_NAME, NK_NO_MEMORY, NK_NO_STEPS or NK_CLOSED, and nothing changes. */
 uint32_t nk_steps_note(nk_steps *steps, nk_zones *zones, const uint8_t *origin, size_t origin_length);
 
 /* Frees the nk_steps, if there is one. Afterwards there is none. */
 void nk_steps_free(nk_steps *steps);
+
+/* Reads a file of keys by which updates are signed, as nk_zones_keys reads those for transfers. They replace what is there, which is freed, its
+ * secrets wiped; and nobody may change anything until nk_updates_rule says so. The buffer and `written` are as for nk_zones_keys.
+ * NK_DONE, NK_BAD_TEXT or NK_NO_MEMORY; after any code but NK_DONE what was there stays. */
+uint32_t nk_updates_keys(nk_updates *updates, const uint8_t *text, size_t text_length, uint8_t *buffer, size_t buffer_length, size_t *written);
+
+/* Adds a rule to those of its zone, which needn't be there yet. Of the rules of a zone the first one decides that is about the key of an
+ * update, a name and a type; what none is about isn't permitted. Rules stay until keys are read again.
+ * NK_DONE, NK_NO_KEY, NK_BAD_SCOPE, NK_BAD_NAME (of any of the three), NK_NO_MEMORY or NK_NO_KEYS. */
+uint32_t nk_updates_rule(nk_updates *updates, const nk_rule *rule);
+
+/* Frees the keys and rules, and wipes the secrets. */
+void nk_updates_free(nk_updates *updates);
+
+/* Carries out an update of one of the zones (RFC 2136), all of it or nothing, and answers it. A message of another kind gets NK_NO_UPDATE: call
+ * this first, and then nk_transfer_begin with the same nk_message. Of this only the octets and the moment are looked at.
+ *
+ *  - A TSIG that is malformed gets FORMERR; one that is refused NOTAUTH with BADKEY, BADSIG, BADTIME or BADTRUNC (RFC 8945 section 5.3.2). The
+ *    response to a message that is rightly signed is signed.
+ *  - NOTAUTH if there is no zone of the name. REFUSED without a TSIG; if a change isn't permitted; and if the zone is signed: one with NSEC or
+ *    NSEC3, or with DNSKEY records at its origin, is signed anew from its file. Otherwise the code is that of RFC 2136 section 2.2, with SERVFAIL
+ *    if there isn't enough memory.
+ *  - An update that is carried out gets NOERROR: the zone after it has replaced the one before, and `changed` is 1. The serial has gone on if an
+ *    RRset changed (section 3.6); nk_zones_serial tells. With any other response no zone has changed, and `changed` is 0; so it is with any
+ *    code but NK_DONE.
+ *
+ * An update that changed a zone is to outlast the process before its response is sent (section 3.5): write its octets and the moment to a file. After
+ * the zone was loaded again, the same calls in the same order, with the same moments, keys and rules, make the same zone. If threads answer from
+ * copies of the zones, update a copy, and put that in place as after a reload ("Threads", above). nk_zones_prepare and nk_steps_note are to be called
+ * again.
+ *
+ * After NK_DONE the response is in the buffer, and `written` has its length. 512 octets are always enough where a zone changes, and 1232 elsewhere,
+ * unless a TSIG is refused whose message names several zones: that response repeats them. After NK_NO_ROOM `written` says how many are needed, and
+ * with any other code it is 0. Whoever resends an update that was carried out has it carried out again, as long as the moment is within the fudge
+ * of its TSIG, mostly 300 seconds: prerequisites guard against that (section 2.4).
+ * NK_DONE, NK_NO_UPDATE, NK_NO_ROOM, NK_NO_MEMORY, NK_NO_KEYS or NK_CLOSED. */
+uint32_t nk_zones_update(nk_zones *zones, nk_updates *updates, const nk_message *message, uint8_t *buffer, size_t buffer_length, size_t *written,
+                         uint32_t *changed);
 
 /* Writes the NOTIFY that tells a secondary of the zone with this origin that it has changed (RFC 1996 section 3), to be sent to the secondary by
  * UDP. It is at the beginning of the buffer, and `written` has its length, at most 271 octets; after NK_NO_ROOM `written` says how many octets are

@@ -66,6 +66,7 @@ WORDS = {
     "&mut AccessHandle": "&mut {}",
     "&mut TransferHandle": "&mut {}",
     "&mut StepsHandle": "&mut {}",
+    "&mut UpdatesHandle": "&mut {}",
     "&mut PlanHandle": "&mut {}",
     "&mut FilesHandle": "&mut {}",
     "&Signing": "&how",
@@ -75,6 +76,7 @@ WORDS = {
     "&mut u32": "&mut {}",
     "&ServerSettings<'_>": "&settings",
     "&ClientMessage<'_>": "&message",
+    "&RuleTexts<'_>": "&rule",
     "&mut SummaryNumbers": "&mut summary",
 }
 
@@ -84,11 +86,13 @@ fn main(rt: HostRuntime) -> std::process::ExitCode {{
     let (mut zones, mut other, mut plan) = (DatabaseHandle::empty(alloc), DatabaseHandle::empty(alloc), plan_calls::PlanHandle::empty(alloc));
     let (mut access, mut transfer, mut steps) = (AccessHandle::empty(alloc), TransferHandle::empty(alloc), StepsHandle::empty(alloc));
     let mut files = file_calls::FilesHandle::empty(alloc);
+    let (mut updates, mut changed, types) = (UpdatesHandle::empty(alloc), 0u32, [1u16]);
     let how = plan_calls::Signing {{ inception: 0, expiration: 0, jitter: 0, key_ttl: 0, denial: 0, iterations: 0, asks_parent: 0 }};
     let (text, mut room, mut written) = ([0u8; 8], [0u8; 8], 0usize);
     let (mut serial, mut number, mut id, mut code) = (0u32, 0u32, 0u32, 0u32);
     let settings = ServerSettings {{ nsid: &text, secrets: &text, cookies_required: 0 }};
     let message = ClientMessage {{ octets: &text, address: &text, moment: 0, limit: 512, transport: 0 }};
+    let rule = RuleTexts {{ origin: &text, key: &text, name: &text, types: &types, scope: 0, denies: 0 }};
     let mut summary = SummaryNumbers {{ code: 0, kind: 0, truncated: 0, cookie: 0, origin_labels: 0 }};
     let mut worst = 0u32;
 {calls}    std::process::ExitCode::from(worst.min(9) as u8)

@@ -3,8 +3,8 @@
  *     cc library_test.c $(pkg-config --cflags --libs ningkraet) -Wl,--wrap=malloc,--wrap=realloc -o library_test
  *     ./library_test [DATAGRAMS]
  *
- * Each refusal is made, clients come with cookies, and a zone is sent; then each allocation of each call fails in turn: the call says so and
- * changes nothing, or does without, and it succeeds when it is made again. Then so many datagrams, which are queries with octets turned, are
+ * Each refusal is made, clients come with cookies, and a zone is sent, and updated; then each allocation of each call fails in turn: the call says
+ * so and changes nothing, or does without, and it succeeds when it is made again. Then so many datagrams, which are queries with octets turned, are
  * answered. With NOT_WRAPPED, as beside a sanitizer, which has a malloc of its own, no allocation fails. */
 #include <ningkraet.h>
 #include <stdio.h>
@@ -321,6 +321,66 @@ static int transfers(void) {
     return 0;
 }
 
+/* An update of the zone, one more address of www, and the TSIG of it under the same key at the same moment. */
+static const uint8_t update[] = "\1\2\50\0\0\1\0\0\0\1\0\0" "\47" "a-name-of-more-than-thirty-three-octets" "\7" "example" "\0\0\6\0\1" "\3" "www" "\300\14\0\1\0\1\0\0\0\74\0\4\300\0\2\11";
+static const uint8_t update_mac[] = "\356\255\343\272\370\210\225\266\230\123\213\275\25\300\206\12\312\154\362\311\152\0\364\243\243\245\211\323\57\12\35\324";
+static nk_updates rules = NK_UPDATES_NONE;
+
+static uint32_t rule(const char *origin, const char *name, uint32_t scope, uint16_t type, uint32_t denies) {
+    nk_rule one = {(const uint8_t *)origin, strlen(origin), (const uint8_t *)name, strlen(name), (const uint8_t *)origin, strlen(origin), &type, 1, scope, denies};
+    return nk_updates_rule(&rules, &one);
+}
+
+static uint32_t update_zone(nk_zones *zones, int is_signed, uint64_t now, size_t space, size_t *written, uint32_t *changed) {
+    uint8_t octets[256];
+    size_t length = sizeof update - 1, size = is_signed ? sizeof tsig - 1 : 0;
+    memcpy(octets, update, length), memcpy(octets + length, tsig, size);
+    octets[11] = is_signed;
+    if (is_signed) memcpy(octets + length + size - 38, update_mac, 32);
+    nk_message message = {.octets = octets, .octets_length = length + size, .moment = now};
+    return nk_zones_update(zones, &rules, &message, room, space, written, changed);
+}
+
+static uint32_t read_rules(const char *file, size_t *written) { return nk_updates_keys(&rules, (const uint8_t *)file, strlen(file), room, sizeof room, written); }
+
+/* Updates: who may make them, what they change, and what each allocation that fails leaves. */
+static int updates(void) {
+    nk_zones zones = NK_ZONES_NONE, other = NK_ZONES_NONE;
+    nk_plan plan = NK_PLAN_NONE;
+    size_t written = 9;
+    uint32_t changed = 9, number, code;
+    memset(room, 85, sizeof room);
+    IS(update_zone(&zones, 1, 1000, sizeof room, &written, &changed) == NK_CLOSED && !written && !changed && is_untouched());
+    IS(nk_zones_new(&zones) == NK_DONE && load(&zones, 0, ORIGIN, text, &written) == NK_DONE && prepare(&zones, ORIGIN) == NK_DONE);
+    IS(update_zone(&zones, 1, 1000, sizeof room, &written, &changed) == NK_NO_KEYS && rule(ORIGIN, "key.example", NK_SUBDOMAIN, 1, 0) == NK_NO_KEYS);
+    IS(read_rules("\nkey a. { secret \"?\"; };\n", &written) == NK_BAD_TEXT && written > 6 && !memcmp(room, "2:", 2) && rule(ORIGIN, "key.example", NK_NAME, 1, 0) == NK_NO_KEYS);
+    for (long nth = 1; (left = nth, code = read_rules(keys, &written), left = -1, code) != NK_DONE; nth++) IS(code == NK_NO_MEMORY && rule(ORIGIN, "a", NK_NAME, 1, 0) == NK_NO_KEYS);
+    IS(rule(ORIGIN, "a.example", NK_NAME, 1, 0) == NK_NO_KEY && rule("a..b", "key.example", NK_NAME, 1, 0) == NK_BAD_NAME && rule(ORIGIN, "a..b", NK_NAME, 1, 0) == NK_BAD_NAME && rule(ORIGIN, "key.example", 4, 1, 0) == NK_BAD_SCOPE);
+    nk_message query = {.octets = before, .octets_length = 12, .moment = 1000};
+    memset(room, 85, sizeof room), written = 9, changed = 9;
+    IS(nk_zones_update(&zones, &rules, &query, room, sizeof room, &written, &changed) == NK_NO_UPDATE && !written && !changed && is_untouched());
+    IS(update_zone(&zones, 0, 1000, sizeof room, &written, &changed) == NK_DONE && written == 12 && (room[3] & 15) == 5 && !changed);
+    IS(update_zone(&zones, 1, 1000, sizeof room, &written, &changed) == NK_DONE && written > 12 && (room[3] & 15) == 5 && room[11] == 1 && !changed);   /* no rule yet */
+    IS(rule(ORIGIN, "KEY.example.", NK_NAME, 1, 0) == NK_DONE && update_zone(&zones, 1, 1000, sizeof room, &written, &changed) == NK_DONE && (room[3] & 15) == 5 && !changed);
+    for (long nth = 1; (left = nth, code = rule(ORIGIN, "key.example", NK_SUBDOMAIN, 255, 0), left = -1, code) != NK_DONE; nth++) IS(code == NK_NO_MEMORY);
+    IS(update_zone(&zones, 1, 1301, sizeof room, &written, &changed) == NK_DONE && (room[3] & 15) == 9 && room[11] == 1 && !changed);   /* BADTIME */
+    memset(room, 85, sizeof room);
+    IS(update_zone(&zones, 1, 1000, 40, &written, &changed) == NK_NO_ROOM && written > 40 && !changed && is_untouched());
+    IS(serial(&zones, ORIGIN, &number) == NK_DONE && number == 7 && answer(&zones, "www", 1, NK_UDP, 1232, &written) == NK_DONE && room[7] == 1 && nk_zones_copy(&zones, &other) == NK_DONE);
+    for (long nth = 1; left = nth, code = update_zone(&zones, 1, 1000, sizeof room, &written, &changed), left = -1, !changed; nth++)
+        IS((code == NK_NO_MEMORY ? !written : code == NK_DONE && (room[3] & 15) == 2) && serial(&zones, ORIGIN, &number) == NK_DONE && number == 7);   /* SERVFAIL */
+    IS(code == NK_DONE && written > 12 && room[2] == 168 && !(room[3] & 15) && room[11] == 1 && serial(&zones, ORIGIN, &number) == NK_DONE && number == 8);
+    IS(answer(&zones, "www", 1, NK_UDP, 1232, &written) == NK_DONE && room[7] == 2 && prepare(&zones, ORIGIN) == NK_DONE && answer(&zones, "www", 1, NK_UDP, 1232, &written) == NK_DONE && room[7] == 2);
+    IS(serial(&other, ORIGIN, &number) == NK_DONE && number == 7 && answer(&other, "www", 1, NK_UDP, 1232, &written) == NK_DONE && room[7] == 1);   /* a copy stays */
+    IS(update_zone(&zones, 1, 1300, sizeof room, &written, &changed) == NK_DONE && !(room[3] & 15) && changed == 1 && serial(&zones, ORIGIN, &number) == NK_DONE && number == 8);   /* again: no RRset changes */
+    IS(begin(&plan, &zones, ORIGIN, sizeof key, &by_nsec, 0) == NK_DONE && sign_all(&plan, 0) == 15 && nk_plan_finish(&plan, &zones) == NK_DONE);
+    IS(update_zone(&zones, 1, 1000, sizeof room, &written, &changed) == NK_DONE && (room[3] & 15) == 5 && room[11] == 1 && !changed);   /* a signed zone */
+    IS(drop(&zones, ORIGIN) == NK_DONE && update_zone(&zones, 1, 1000, sizeof room, &written, &changed) == NK_DONE && (room[3] & 15) == 9 && !changed);
+    nk_updates_free(&rules), nk_updates_free(&rules), nk_zones_free(&zones), nk_zones_free(&other);
+    IS(rule(ORIGIN, "key.example", NK_NAME, 1, 0) == NK_NO_KEYS);
+    return 0;
+}
+
 /* Each allocation of these calls fails in turn: what has memory for it goes on from where it was. */
 static int transfer_failures(nk_zones *zones) {
     nk_transfer transfer = NK_TRANSFER_NONE;
@@ -520,7 +580,7 @@ static int change_failures(void) {
 int main(int argc, char **argv) {
     nk_zones zones = NK_ZONES_NONE;
     memset(before, 85, sizeof before);
-    int status = refusals() || expiry() || included() || notified() || plan_refusals() || transfers() || changes() || cookies() || failures(&zones) || datagrams(&zones, argc > 1 ? atol(argv[1]) : 0) || transfer_failures(&zones) || plan_failures(&zones) || change_failures();
+    int status = refusals() || expiry() || included() || notified() || plan_refusals() || transfers() || updates() || changes() || cookies() || failures(&zones) || datagrams(&zones, argc > 1 ? atol(argv[1]) : 0) || transfer_failures(&zones) || plan_failures(&zones) || change_failures();
     nk_zones_free(&zones);
     return status;
 }

@@ -16,8 +16,9 @@ import sources
 
 EXPORTS = "\n".join(library.texts("ningkraet").values())
 HEADER, CODES = "include/ningkraet.h", "crates/zone_database/src/outcome.rt"
-# The files of the codes that calls on plans and on transfers have besides, and that of how a zone is to be signed.
+# The files of the codes that calls on plans, transfers and updates have besides, and those of how a zone is to be signed, and of rules.
 PLAN_CODES, TRANSFER_CODES, SIGNING = "crates/plan_calls/src/outcome.rt", "crates/transfer_calls/src/outcome.rt", "crates/plan_calls/src/signing.rt"
+UPDATE_CODES, RULES = "crates/update_calls/src/outcome.rt", "crates/update_calls/src/rules.rt"
 # Those of calls about files, and why a file can't be read.
 FILE_CODES, LACKS = "crates/file_calls/src/outcome.rt", {"Absent": "FILE", "Folder": "FOLDER", "Stream": "STREAM", "Denied": "PERMISSION", "Unreadable": "OTHER"}
 CLIENT, SUMMARY = "crates/arrival_calls/src/client.rt", "crates/arrival_calls/src/summary_numbers.rt"
@@ -29,6 +30,9 @@ KINDS = {
     "&mut AccessHandle": ["nk_access *"],
     "&mut TransferHandle": ["nk_transfer *"],
     "&mut StepsHandle": ["nk_steps *"],
+    "&mut UpdatesHandle": ["nk_updates *"],
+    "&RuleTexts<'_>": ["const nk_rule *"],
+    "&[u16]": ["const uint16_t *", "size_t"],
     "&mut PlanHandle": ["nk_plan *"],
     "&mut FilesHandle": ["nk_files *"],
     "&Signing": ["const nk_signing *"],
@@ -70,13 +74,13 @@ def in_capitals(name):
 
 def told():
     """The codes of the library by their names in C."""
-    codes = [it for file in (CODES, TRANSFER_CODES, FILE_CODES) for it in re.findall(r"Outcome::(\w+) => (\d+),", sources.read(file))]
+    codes = [it for file in (CODES, TRANSFER_CODES, UPDATE_CODES, FILE_CODES) for it in re.findall(r"Outcome::(\w+) => (\d+),", sources.read(file))]
     of_plans = re.findall(r"^const (\w+): u32 = (\d+);", sources.read(PLAN_CODES), re.M)
     return {in_capitals(name): int(code) for name, code in codes} | {f"NK_{name}": int(code) for name, code in of_plans}
 
 
 # The structs that calls take: the name in C, the file and the name in Rattle.
-STRUCTS = [("nk_settings", CLIENT, "ServerSettings"), ("nk_message", CLIENT, "ClientMessage"), ("nk_summary", SUMMARY, "SummaryNumbers"), ("nk_signing", SIGNING, "Signing")]
+STRUCTS = [("nk_settings", CLIENT, "ServerSettings"), ("nk_message", CLIENT, "ClientMessage"), ("nk_summary", SUMMARY, "SummaryNumbers"), ("nk_signing", SIGNING, "Signing"), ("nk_rule", RULES, "RuleTexts")]
 
 
 def fields(text, in_c, file, name):

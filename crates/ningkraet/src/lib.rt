@@ -1,6 +1,6 @@
 //! The zones of a server for programs that aren't written in Rattle: what `include/ningkraet.h` declares, each by one call of
-//! `zone_database`, `arrival_calls`, `transfer_calls`, `notify_calls`, `expiry_calls`, `plan_calls` or `file_calls`. C passes no allocator; to C
-//! a slice is a pointer and a length, and a `&mut` a pointer.
+//! `zone_database`, `arrival_calls`, `transfer_calls`, `update_calls`, `notify_calls`, `expiry_calls`, `plan_calls` or `file_calls`.
+//! C passes no allocator; to C a slice is a pointer and a length, and a `&mut` a pointer.
 #![tactic(auto)]
 
 ghost use Rattle.std.specs.Prelude.{◌≡◌, [], None};
@@ -11,6 +11,9 @@ ghost use Rattle.transfer_calls.specs.Accesses.{AllowsHeld, ReadsAccess};
 ghost use Rattle.transfer_calls.specs.Outcomes.{Codes as TransferCodes};
 ghost use Rattle.transfer_calls.specs.Steps.{BeginsSteps, NotesHeld, ShortensHeld};
 ghost use Rattle.transfer_calls.specs.Transfers.{AnswersMessage, GivesMessage};
+ghost use Rattle.update_calls.specs.Accesses.{ReadsAccess as ReadsUpdates, RulesHeld, TellsFault};
+ghost use Rattle.update_calls.specs.Outcomes.{Codes as UpdateCodes};
+ghost use Rattle.update_calls.specs.Updates.{told, UpdatesHeld};
 ghost use Rattle.message_notify.specs.Notifies.{response_of};
 ghost use Rattle.notify_calls.specs.NotifyCalls.{ReadsResponse, WritesNotify};
 ghost use Rattle.expiry_calls.specs.Expiry.{Expires};
@@ -22,6 +25,7 @@ use arrival_calls::{ClientMessage, ServerSettings, SummaryNumbers, answer_client
 use notify_calls::calls as notifies;
 use std::alloc::Global;
 use transfer_calls::{AccessHandle, StepsHandle, TransferHandle};
+use update_calls::{RuleTexts, UpdatesHandle};
 use zone_database::{DatabaseHandle, calls};
 
 /// The number of the interface. It grows where a call or a code changes or goes.
@@ -307,6 +311,62 @@ pub extern "C" fn nk_steps_free(alloc: Global, steps: &mut StepsHandle)
     ensures { steps.new.held ≡ None }
 {
     transfer_calls::free_steps(alloc, steps)
+}
+
+/// Has another hold the keys of a text, in place of what it holds; no zone has a rule then. Writes what is wrong with a text that is refused
+/// into the room.
+#[unsafe(no_mangle)]
+pub extern "C" fn nk_updates_keys(
+    alloc: Global,
+    updates: &mut UpdatesHandle,
+    text: &[u8],
+    buffer: &mut [u8],
+    written: &mut usize,
+) -> u32
+    ensures { Codes result (λ o. ReadsUpdates text.now updates.old.held o updates.new.held
+        × TellsFault o written.new buffer.old buffer.new) }
+{
+    update_calls::read_access(alloc, updates, text, buffer, written).code()
+}
+
+/// Adds a rule of who may change what in a zone, behind those that the zone has.
+#[unsafe(no_mangle)]
+pub extern "C" fn nk_updates_rule(
+    alloc: Global,
+    updates: &mut UpdatesHandle,
+    rule: &RuleTexts<'_>,
+) -> u32
+    ensures { UpdateCodes result (λ o.
+        RulesHeld rule.now updates.old.held o updates.new.held) }
+{
+    update_calls::add_rule(alloc, updates, rule).code()
+}
+
+/// Gives the memory of the keys and rules that are kept back. None are kept then.
+#[unsafe(no_mangle)]
+pub extern "C" fn nk_updates_free(alloc: Global, updates: &mut UpdatesHandle)
+    ensures { updates.new.held ≡ None }
+{
+    update_calls::free(alloc, updates)
+}
+
+/// Carries out an update of one of the zones, by the keys and rules that are kept, and writes the response into the room.
+#[unsafe(no_mangle)]
+pub extern "C" fn nk_zones_update(
+    alloc: Global,
+    zones: &mut DatabaseHandle,
+    updates: &mut UpdatesHandle,
+    message: &ClientMessage<'_>,
+    buffer: &mut [u8],
+    written: &mut usize,
+    changed: &mut u32,
+) -> u32
+    ensures zones { UpdateCodes result (λ o.
+        UpdatesHeld updates.old.held message.now zones.old.held
+        (told o written.new buffer.old buffer.new changed.new) zones.new.held) }
+    ensures same { updates.new.held ≡ updates.old.held }
+{
+    update_calls::update(alloc, zones, updates, message, buffer, written, changed).code()
 }
 
 /// Writes the NOTIFY for the zone of an origin into the room.
