@@ -1,0 +1,326 @@
+#!/usr/bin/env python3
+"""tools/compare/updates.py [SEED [ROUNDS [FOLDER]]]: the C library and BIND get the same random updates of a zone (RFC 2136), signed by one of
+two keys (TSIG), of which one may change all, and the other little. After each, both have answered with the same code, and both have the same
+records; the HMAC of Python judges the TSIG of each response of the library. Then nsupdate and knsupdate are clients of the library. If a tool is
+missing, it is left out, and a line says so. Not part of the gate: it needs cc, and opens sockets on loopback. It ends what it starts.
+
+BIND is Debian's package bind9, and the tools are those of bind9-dnsutils and knot-dnsutils. FOLDER is what `./build ningkraet` made; where none is
+named it is what `tools/build/program path ningkraet` gives. The status is 1 if anything differs.
+"""
+import base64
+import os
+import random
+import socket
+import struct
+import subprocess
+import sys
+import tempfile
+import threading
+import time
+from ctypes import CDLL, POINTER, Structure, byref, c_char_p, c_size_t, c_uint16, c_uint32, c_uint64, c_void_p, create_string_buffer
+
+sys.dont_write_bytecode = True
+sys.path.append(os.path.dirname(os.path.dirname(os.path.realpath(__file__))))
+
+import peers
+from keyed_transfers import KEY, KEYS, OTHER, SECRET, judged, signed, wire
+from tsig_judge import name_at, parted
+
+ORIGIN = "zone.example."
+ZONE = "$TTL 300\n@ SOA ns host 7 3600 600 86400 60\n@ NS ns\nns A 192.0.2.1\na A 192.0.2.2\na A 192.0.2.3\na.b TXT one\nkept A 192.0.2.4\nalias CNAME a\n"
+A, NS, CNAME, SOA, MX, TXT, AXFR, ANY = 1, 2, 5, 6, 15, 16, 252, 255
+IN, NONE, ANY_CLASS = 1, 254, 255
+NOERROR, REFUSED = 0, 5
+# The codes of prerequisites (RFC 2136 section 2.2). BIND looks at its policy before them, and the library behind them (section 3.3).
+UNMET = (3, 6, 7, 8)
+# Each rule: a key, a name, whether it is about all below that too, types, and whether it denies them. OTHER may change all; KEY addresses and texts
+# at `a` and below it, and most of what is at `b` and below it.
+RULES = [
+    (OTHER, ORIGIN, True, (ANY,), False),
+    (KEY, f"kept.b.{ORIGIN}", False, (ANY,), True),
+    (KEY, f"a.{ORIGIN}", True, (A, TXT), False),
+    (KEY, f"b.{ORIGIN}", True, (), False),
+]
+WORDS = {A: "A", TXT: "TXT", ANY: "ANY"}
+POLICY = " ".join(
+    f"{'deny' if denies else 'grant'} {key} {'subdomain' if below else 'name'} {name} {' '.join(WORDS[it] for it in types)};" for key, name, below, types, denies in RULES
+)
+BIND = 'zone "{origin}" {{ type primary; file "{path}"; check-integrity no; check-mx ignore; allow-transfer {{ any; }}; update-policy {{ {policy} }}; }};\n'
+BIND_KEY = 'key "{key}" {{ algorithm hmac-sha256; secret "{secret}"; }};\n'
+NAMES = [ORIGIN, *(f"{it}.{ORIGIN}" for it in ("a", "b", "a.a", "kept.b", "c.b", "alias", "kept", "new", "x.y.new"))]
+# What the tools are told: a record that is added, and one that needs a record that isn't there.
+TOLD = "server 127.0.0.1 {port}\nzone {origin}\nkey hmac-sha256:{key} {secret}\n{change}\nsend\nquit\n"
+CHANGES = {"update add {name} 60 A 192.0.2.77": True, "prereq yxdomain nobody.{origin}\nupdate add other.{origin} 60 A 192.0.2.78": False}
+SECONDS = 5
+
+
+class Message(Structure):
+    _fields_ = [("octets", c_char_p), ("octets_length", c_size_t), ("address", c_char_p), ("address_length", c_size_t), ("moment", c_uint64), ("limit", c_size_t), ("transport", c_uint32)]
+
+
+class Rule(Structure):
+    _fields_ = [
+        *(field for it in ("origin", "key", "name") for field in ((it, c_char_p), (f"{it}_length", c_size_t))),
+        *(("types", POINTER(c_uint16)), ("types_length", c_size_t), ("scope", c_uint32), ("denies", c_uint32)),
+    ]
+
+
+def pair(octets):
+    """Octets as a pointer and a length."""
+    return octets, c_size_t(len(octets))
+
+
+class Held:
+    """The zone in the library, with its keys and rules; anybody may have it."""
+
+    def __init__(self, folder):
+        self.library = CDLL(f"{folder}/libningkraet.so")
+        self.zones, self.updates, self.access, self.transfer = c_void_p(), c_void_p(), c_void_p(), c_void_p()
+        self.room, self.written, self.changed = create_string_buffer(65535), c_size_t(), c_uint32()
+        origin, keys, whole = pair(ORIGIN.encode()), pair(KEYS.encode()), (self.room, c_size_t(65535), byref(self.written))
+        self.whole = whole
+        self.done("nk_zones_new", self.zones)
+        self.done("nk_zones_load", self.zones, *origin, *pair(ZONE.encode()), *whole)
+        self.done("nk_updates_keys", self.updates, *keys, *whole)
+        self.done("nk_zones_keys", self.access, *keys, *whole)
+        self.done("nk_zones_allow", self.access, *origin, *pair(b""))
+        for key, name, below, types, denies in RULES:
+            texts = [field for it in (ORIGIN, key, name) for field in (it.encode(), len(it))]
+            rule = Rule(*texts, (c_uint16 * (len(types) + 1))(*types), len(types), int(below), int(denies))
+            self.done("nk_updates_rule", self.updates, byref(rule))
+
+    def call(self, name, handle, *words):
+        return self.library[name](byref(handle), *words)
+
+    def done(self, name, handle, *words):
+        if code := self.call(name, handle, *words):
+            sys.exit(f"updates: {name} gives {code}")
+
+    def message(self, octets, transport):
+        return byref(Message(octets, len(octets), b"\x7f\0\0\1", 4, int(time.time()), 1232, transport))
+
+    def updated(self, octets):
+        """The response to an update, and whether a zone changed."""
+        self.done("nk_zones_update", self.zones, byref(self.updates), self.message(octets, 0), *self.whole, byref(self.changed))
+        return self.room.raw[: self.written.value], bool(self.changed.value)
+
+    def answers(self, octets):
+        """The messages of the answer over TCP."""
+        begun = self.call("nk_transfer_begin", self.transfer, byref(self.zones), byref(self.access), self.message(octets, 1), *self.whole)
+        while self.call("nk_transfer_next", self.transfer, c_uint64(int(time.time())), *self.whole) == NOERROR:
+            yield self.room.raw[: self.written.value]
+        if not begun:
+            sys.exit("updates: the library doesn't send its zone")
+
+
+class Peer:
+    """The same zone in BIND."""
+
+    def __init__(self, folder):
+        self.port = peers.free_port()
+        os.mkdir(folder)
+        with open(f"{folder}/zone", "w", encoding="ascii") as it:
+            it.write(ZONE)
+        keys = "".join(BIND_KEY.format(key=key, secret=base64.b64encode(SECRET).decode()) for key in (KEY, OTHER))
+        zone = BIND.format(origin=ORIGIN, path=f"{folder}/zone", policy=POLICY)
+        self.process = peers.begun(peers.configured("named", f"{folder}/named", self.port, keys + zone))
+        with peers.connected(self.port) as stream:
+            peers.await_zones(stream, [ORIGIN])
+
+    def updated(self, octets):
+        with socket.socket(socket.AF_INET, socket.SOCK_DGRAM) as it:
+            it.settimeout(SECONDS)
+            it.sendto(octets, ("127.0.0.1", self.port))
+            return it.recv(65535)
+
+    def answers(self, octets):
+        with socket.create_connection(("127.0.0.1", self.port), SECONDS) as stream:
+            yield peers.asked(stream, octets)
+
+
+# ---- messages
+
+
+def plain_data(message, kind, data, at):
+    """The data of a record, which begin there, with their names whole."""
+    lead, names = {NS: (0, 1), CNAME: (0, 1), MX: (2, 1), SOA: (0, 2)}.get(kind, (len(data), 0))
+    parts, place = [data[:lead]], at + lead
+    for _ in range(names):
+        name, place = name_at(message, place)
+        parts.append(name)
+    return b"".join(parts) + message[place : at + len(data)] if names else data
+
+
+def records_in(messages):
+    """The records of answers, each once."""
+    records = set()
+    for message in messages:
+        for start, kind, _, ttl, data, section in parted(message):
+            if section == 0:
+                name, behind = name_at(message, start)
+                records.add((name, kind, ttl, plain_data(message, kind, data, behind + 10)))
+    return records
+
+
+def query(name, kind):
+    return struct.pack("!HHHHHH", 0x4E4B, 0, 1, 0, 0, 0) + wire(name) + struct.pack("!HH", kind, IN)
+
+
+def zone_of(server):
+    return records_in(server.answers(query(ORIGIN, AXFR)))
+
+
+def serial_of(records):
+    return next(struct.unpack_from("!I", it[3], len(it[3]) - 20)[0] for it in records if it[1] == SOA)
+
+
+def without_start(records):
+    return {it for it in records if it[1] != SOA}
+
+
+# ---- updates
+
+
+def entry(name, kind, family, ttl=0, data=b""):
+    return wire(name) + struct.pack("!HHIH", kind, family, ttl, len(data)) + data
+
+
+def start_data(serial):
+    return wire(f"ns.{ORIGIN}") + wire(f"host.{ORIGIN}") + struct.pack("!5I", serial, 3600, 600, 86400, 60)
+
+
+def random_data(kind):
+    number = random.randrange(1, 5)
+    return {
+        A: bytes([192, 0, 2, number]),
+        TXT: bytes([4]) + b"txt%d" % number,
+        MX: struct.pack("!H", number) + wire(random.choice(NAMES)),
+        # (BIND refuses an NS of the zone itself whose name in the zone has no address)
+        NS: wire(f"ns{number}.other.test."),
+        CNAME: wire(random.choice(NAMES)),
+        SOA: start_data(random.choice([1, 7, 8, 9, 20, 3_000_000_000])),
+    }[kind]
+
+
+def random_kind():
+    return random.choices([A, TXT, MX, NS, CNAME, SOA], [6, 4, 2, 2, 2, 1])[0]
+
+
+def random_need():
+    """A prerequisite (RFC 2136 section 2.4)."""
+    name, kind = random.choice(NAMES), random.choice([A, TXT, MX, NS, ANY])
+    if kind != ANY and random.random() < 0.4:
+        return entry(name, kind, IN, 0, random_data(kind))
+    return entry(name, kind, random.choice([ANY_CLASS, NONE]))
+
+
+def random_change():
+    """A change (section 2.5)."""
+    name, kind, way = random.choice(NAMES), random_kind(), random.random()
+    if way < 0.55:
+        return entry(name, kind, IN, random.choice([60, 300]), random_data(kind))
+    if way < 0.75:
+        return entry(name, kind, NONE, 0, random_data(kind))
+    return entry(name, kind if way < 0.9 else ANY, ANY_CLASS)
+
+
+def update(needs, changes):
+    head = struct.pack("!HHHHHH", random.randrange(65536), 5 << 11, 1, len(needs), len(changes), 0)
+    return head + wire(ORIGIN) + struct.pack("!HH", SOA, IN) + b"".join(needs) + b"".join(changes)
+
+
+def random_update():
+    needs = [random_need() for _ in range(random.choice([0, 0, 0, 1, 2]))]
+    return update(needs, [random_change() for _ in range(random.choice([0, 1, 1, 1, 2, 3, 4]))])
+
+
+# ---- what is compared
+
+
+def differences(held, bind, rounds):
+    """What the two make of the same updates, where it isn't the same; how many were answered with which code; and how many serials differed."""
+    wrong, codes, undone = [], {}, 0
+    for number in range(rounds):
+        key = random.choice([KEY, OTHER, OTHER])
+        message, mac = signed(random_update(), key)
+        ours, changed = held.updated(message)
+        theirs = bind.updated(message)
+        code = ours[3] & 15
+        codes[code] = codes.get(code, 0) + 1
+        if not judged([ours], key, mac).right or changed != (code == NOERROR):
+            wrong.append(f"{number}: the response isn't signed, or tells wrongly whether the zone changed: {message.hex()}")
+        mine, others = zone_of(held), zone_of(bind)
+        # (what a key may not delete may be absent: then the library says NOERROR, as nothing changes, and BIND REFUSED)
+        if code != theirs[3] & 15 and not (theirs[3] & 15 == REFUSED and (code in UNMET or code == NOERROR and mine == others)):
+            wrong.append(f"{number}: {code}, and BIND {theirs[3] & 15}: {message.hex()}")
+        if without_start(mine) == without_start(others) and serial_of(mine) == serial_of(others) + 1:
+            # (changes that undo each other: the library's serial goes on, and BIND's stays; section 3.6 allows both)
+            undone += 1
+            for it in (held, bind):
+                it.updated(signed(update([], [entry(ORIGIN, SOA, IN, 300, start_data(serial_of(mine) + 1))]), OTHER)[0])
+        elif mine != others:
+            wrong.append(f"{number}: only here {mine - others}, only in BIND {others - mine}: {message.hex()}")
+            break
+    return wrong, codes, undone
+
+
+def serve(held, port):
+    """Answers updates over UDP and TCP, one after the other."""
+    here, streams = socket.socket(socket.AF_INET, socket.SOCK_DGRAM), socket.create_server(("127.0.0.1", port))
+    here.bind(("127.0.0.1", port))
+
+    def datagrams():
+        while True:
+            octets, client = here.recvfrom(65535)
+            here.sendto(held.updated(octets)[0], client)
+
+    def connections():
+        while True:
+            with streams.accept()[0] as stream:
+                stream.sendall(peers.framed(held.updated(peers.received(stream.makefile("rb").read))[0]))
+
+    for it in (datagrams, connections):
+        threading.Thread(target=it, daemon=True).start()
+
+
+def wrong_of_tool(tool, held, port):
+    """What is wrong with the updates of a tool: over UDP, and over TCP."""
+    wrong = []
+    for way in ([], ["-v"]):
+        name = f"{tool}{len(way)}.{ORIGIN}"
+        for change, is_taken in CHANGES.items():
+            words = TOLD.format(port=port, origin=ORIGIN, key=OTHER, secret=base64.b64encode(SECRET).decode(), change=change.format(name=name, origin=ORIGIN))
+            ran = subprocess.run([peers.found(tool), *way], input=words, stdout=subprocess.PIPE, stderr=subprocess.STDOUT, text=True, timeout=60)
+            if (ran.returncode == 0) != is_taken:
+                wrong.append(f"{tool} {way}: status {ran.returncode}: {ran.stdout.strip()}")
+        if (wire(name), A, 60, bytes([192, 0, 2, 77])) not in zone_of(held):
+            wrong.append(f"{tool} {way}: its record isn't there")
+    return wrong
+
+
+def main(seed="1", rounds="300", folder=None):
+    random.seed(int(seed))
+    held, wrong = Held(folder or peers.program("ningkraet")), []
+    if peers.found("named"):
+        with tempfile.TemporaryDirectory() as room:
+            bind = Peer(f"{room}/bind")
+            try:
+                wrong, codes, undone = differences(held, bind, int(rounds))
+            finally:
+                peers.end(bind.process)
+        print(f"updates: {rounds} updates, by their codes {dict(sorted(codes.items()))}; of {undone} the changes undo each other")
+    else:
+        print("updates: left out: named isn't there")
+    port = peers.free_port()
+    serve(held, port)
+    for tool in ("nsupdate", "knsupdate"):
+        if peers.found(tool):
+            wrong += wrong_of_tool(tool, held, port)
+        else:
+            print(f"updates: left out: {tool} isn't there")
+    print("\n".join(f"updates: {it}" for it in wrong) or "updates: nothing differs")
+    return bool(wrong)
+
+
+if __name__ == "__main__":
+    peers.called(main, __doc__, 3)
