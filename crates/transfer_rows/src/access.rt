@@ -1,9 +1,12 @@
 //! A server with keys: who may have its zones, and what it answers.
 
+use crate::updates::update_keys;
 use held_transfers::{KeyedAnswer, TransferAccess, answer_with_keys};
+use held_updates::UpdateAccess;
 use key_files::KeyFileError;
 use line_text::{HexText, TextError, Words, read_hex, read_name};
 use std::alloc::Global;
+use std::collections::BTreeMap;
 use zone_database::{TextFault, ZoneDatabase, read_zone};
 use zone_proto::LowerName;
 use zone_server::Transport;
@@ -11,8 +14,12 @@ use zone_server::Transport;
 /// A server with keys.
 #[derive(Drop)]
 pub struct KeyedServer {
+    /// Its keys, and who may have which zone.
     access: TransferAccess,
-    zones: ZoneDatabase,
+    /// The same keys, and who may change what.
+    pub updates: UpdateAccess,
+    /// Its zones.
+    pub zones: ZoneDatabase,
 }
 
 impl KeyedServer {
@@ -22,6 +29,10 @@ impl KeyedServer {
             access: TransferAccess {
                 keys: Vec::new(alloc),
                 grants: Vec::new(alloc),
+            },
+            updates: UpdateAccess {
+                keys: Vec::new(alloc),
+                tables: BTreeMap::new(alloc),
             },
             zones: ZoneDatabase::new(alloc),
         }
@@ -34,6 +45,7 @@ pub fn keys_told(alloc: Global, server: &mut KeyedServer, text: &str) -> Result<
     match TransferAccess::read(alloc, lines.as_bytes()) {
         Ok(access) => {
             let count = access.keys.len();
+            server.updates = update_keys(alloc, lines.as_bytes())?;
             server.access = access;
             Ok(format!(in alloc; "{count}")?)
         }

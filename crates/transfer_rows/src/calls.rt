@@ -2,6 +2,7 @@
 
 use crate::access::{KeyedServer, allow_told, keys_told, request_told, zone_told};
 use crate::answers::{answer_told, query_told};
+use crate::updates::{records_told, rule_told, update_told};
 use compared_rows::Caller;
 use line_text::{TextError, Words, read_record};
 use std::alloc::Global;
@@ -33,6 +34,9 @@ impl Caller for TransferCaller {
             "zone" => zone_told(alloc, &mut self.server, text),
             "allow" => allow_told(alloc, &mut self.server, words),
             "request" => request_told(alloc, &self.server, words),
+            "rule" => rule_told(alloc, &mut self.server, words),
+            "update" => update_told(alloc, &mut self.server, words),
+            "records" => records_told(alloc, &self.server, words),
             _ => Err(TextError::BadText),
         }
     }

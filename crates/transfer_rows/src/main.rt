@@ -1,5 +1,5 @@
-//! Writes the questions of secondaries, takes the answers of primaries, and asks a server with keys for its zones, as rows of text describe;
-//! reports which rows have another answer. Each line of standard input names a file of rows in the current directory, `data`.
+//! Writes the questions of secondaries, takes the answers of primaries, and asks a server with keys for its zones and to update them, as rows of
+//! text describe; reports which rows have another answer. Each line of standard input names a file of rows in the current directory, `data`.
 //!
 //! A row is `CALL => ANSWER`; a line without `=>` is a comment, and spaces within answers are passed over. Octets are written in hex. A question
 //! is `soa`, `changes SERIAL` or `zone`. The calls:
@@ -8,16 +8,22 @@
 //! - `held NAME TTL TYPE DATA` adds a record to those that are held: how many there are;
 //! - `answer ID NAME QUESTION MESSAGE ..` takes the messages of the answer to a question: how far it has come behind each, or what is wrong with
 //!   it, which ends the row; and then what it says, the records of the zone in lines of a file or the serial alone;
-//! - `keys TEXT` gives a server the keys of a file, and it lets nobody have a zone then: how many keys, or the fault; `zone NAME TEXT` gives it a
-//!   zone; `|` ends the lines of texts;
+//! - `keys TEXT` gives a server the keys of a file, and it lets nobody have or change a zone then: how many keys, or the fault; `zone NAME TEXT`
+//!   gives it a zone; `|` ends the lines of texts;
 //! - `allow NAME` lets anybody have a zone, and `allow NAME to KEY` those who have a key;
 //! - `request MOMENT WAY MESSAGE` sends it a message, by `udp` or `tcp`: `the zone` where its messages begin, the octets of another response,
-//!   `as any server` for what it answers without keys, or `nothing`.
+//!   `as any server` for what it answers without keys, or `nothing`;
+//! - `rule ORIGIN grant|deny KEY NAME TYPE ..` adds a rule of a zone: those who have the key may change, or may not, the sets of the name and of all
+//!   below it; of all types but SOA and NS where none is named;
+//! - `update MOMENT ROOM MESSAGE` sends it an update, with room for so many octets of the response: the octets of that behind the origin of the zone
+//!   that was updated, or behind `refused` or `too long`; or `no update`;
+//! - `records NAME` tells the records of a zone.
 #![tactic(auto)]
 
 mod access;
 mod answers;
 mod calls;
+mod updates;
 
 use calls::TransferCaller;
 use compared_rows::report_files;
