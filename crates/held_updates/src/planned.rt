@@ -7,7 +7,8 @@ use zone_database::Zone;
 pub struct UpdatedZone {
     /// The zone. It is to take the place of the one of its origin.
     pub zone: Zone,
-    /// Where journals are kept, the frame that the journal of the zone gets first (`zone_journal`), and else no octets.
+    /// Where journals are kept, the frame that the journal of the zone gets first (`zone_journal`), unless the SOA stayed as it was; and else no
+    /// octets.
     pub frame: Vec<u8>,
 }
 

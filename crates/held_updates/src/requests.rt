@@ -29,8 +29,9 @@ use zone_update::Refusal;
 ///
 /// The response goes out when the zone after the update stands in place of the one of its origin (RFC 2136 section 3.5), which is for the caller: `put`
 /// of the database does it. Where journals are kept, `is_kept`, the frame of the zone has to be in the file of its journal before, and synced, so
-/// that no version is served that a crash would take back. A caller that lets time pass in between looks whether the zone of the origin still is the
-/// one that was updated.
+/// that no version is served that a crash would take back. An update that changes nothing leaves the SOA as it was (section 3.6): then the frame is
+/// left out, since no two versions of a journal may have one SOA. A caller that lets time pass in between looks whether the zone of the origin
+/// still is the one that was updated.
 ///
 /// # Errors
 ///
