@@ -405,12 +405,12 @@ void nk_updates_free(nk_updates *updates);
  *
  *  - A TSIG that is malformed gets FORMERR; one that is refused NOTAUTH with BADKEY, BADSIG, BADTIME or BADTRUNC (RFC 8945 section 5.3.2). The
  *    response to a message that is rightly signed is signed.
- *  - NOTAUTH if there is no zone of the name. REFUSED without a TSIG; if a change isn't permitted; and if the zone is signed: one with NSEC or
- *    NSEC3, or with DNSKEY records at its origin, is signed anew from its file. Otherwise the code is that of RFC 2136 section 2.2, with SERVFAIL
- *    if there isn't enough memory.
- *  - An update that is carried out gets NOERROR: the zone after it has replaced the one before, and `changed` is 1. The serial has gone on if an
- *    RRset changed (section 3.6); nk_zones_serial tells. With any other response no zone has changed, and `changed` is 0; so it is with any
- *    code but NK_DONE.
+ *  - NOTAUTH if there is no zone of the name. SERVFAIL if it has expired. REFUSED without a TSIG; if a change isn't permitted; and if the zone is
+ *    signed: one with NSEC or NSEC3, or with DNSKEY records at its origin, is signed anew from its file. Otherwise the code is that of RFC 2136
+ *    section 2.2, with SERVFAIL if there isn't enough memory.
+ *  - An update that is carried out gets NOERROR. If it changes anything, the zone after it has replaced the one before, its serial is another
+ *    (section 3.6), and `changed` is 1. If it changes nothing, or with any other response, no zone has changed, and `changed` is 0; so it is with
+ *    any code but NK_DONE.
  *
  * An update that changed a zone is to outlast the process before its response is sent (section 3.5): write its octets and the moment to a file. After
  * the zone was loaded again, the same calls in the same order, with the same moments, keys and rules, make the same zone. If threads answer from

@@ -81,6 +81,8 @@ WORDS = {
 }
 
 PROGRAM = """
+use call_handles::Handle;
+
 fn main(rt: HostRuntime) -> std::process::ExitCode {{
     let alloc = rt.alloc();
     let (mut zones, mut other, mut plan) = (DatabaseHandle::empty(alloc), DatabaseHandle::empty(alloc), plan_calls::PlanHandle::empty(alloc));

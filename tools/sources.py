@@ -92,7 +92,7 @@ def add_items(names, text, module):
             names.items.update(head)
         elif line.startswith("}"):
             owners = []
-        if it := re.match(r"(?:    )?(?:pub(?:\([\w:]+\))? )?(?:const )?(?:extern \"C\" )?fn (\w+)", line):
+        if it := re.match(r"(?:    )?(?:pub(?:\([\w:]+\))? )?(?:final )?(?:const )?(?:extern \"C\" )?fn (\w+)", line):
             function = [it[1]] + [f"{owner}::{it[1]}" for owner in owners + [module]]
             names.add_clauses(function, [])
         elif it := re.match(r" +ensures (\w+ )?\{", line):

@@ -243,13 +243,14 @@ def differences(held, bind, rounds):
     for number in range(rounds):
         key = random.choice([KEY, OTHER, OTHER])
         message, mac = signed(random_update(), key)
+        before = zone_of(held)
         ours, changed = held.updated(message)
         theirs = bind.updated(message)
         code = ours[3] & 15
         codes[code] = codes.get(code, 0) + 1
-        if not judged([ours], key, mac).right or changed != (code == NOERROR):
-            wrong.append(f"{number}: the response isn't signed, or tells wrongly whether the zone changed: {message.hex()}")
         mine, others = zone_of(held), zone_of(bind)
+        if not judged([ours], key, mac).right or changed != (mine != before) or changed and code != NOERROR:
+            wrong.append(f"{number}: the response isn't signed, or tells wrongly whether the zone changed: {message.hex()}")
         # (what a key may not delete may be absent: then the library says NOERROR, as nothing changes, and BIND REFUSED)
         if code != theirs[3] & 15 and not (theirs[3] & 15 == REFUSED and (code in UNMET or code == NOERROR and mine == others)):
             wrong.append(f"{number}: {code}, and BIND {theirs[3] & 15}: {message.hex()}")

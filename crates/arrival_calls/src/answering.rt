@@ -5,12 +5,11 @@ ghost use Rattle.arrival_calls.specs.ArrivalCalls.{AnswersArrivalHeld, IsArrival
 
 use crate::responding::FromDatabase;
 use crate::summary_numbers::{SummaryNumbers, numbers_of};
+use call_handles::Handle;
 use server_options::{Arrival, ServerOptions, answer_arrival as answer_with_options};
 use std::alloc::Global;
+use zone_database::calls::FIRST_BUFFER;
 use zone_database::{DatabaseHandle, Outcome, ZoneDatabase, give};
-
-/// How many octets a response has room for before more is taken.
-const FIRST_BUFFER: usize = 512;
 
 /// Answers a message from the zones that a handle holds, as [`answer_arrival`](server_options::answer_arrival) does: writes the response into
 /// the room, its length into `written`, and what it was into `summary`.

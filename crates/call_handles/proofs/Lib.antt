@@ -1,2 +1,4 @@
+pub mod NullableBoxes
 pub mod RawBoxes
+pub mod Sending
 pub mod Walking

@@ -8,7 +8,7 @@ use Rattle.zone_proto.specs.Names.{Name, lower}
 use Rattle.zone_proto.specs.Sets.{RRset, first_serial}
 use Rattle.zone_proto.specs.Types.{SOA}
 use Rattle.zone_map.specs.Zones.{Sets, set_at}
-use Rattle.zone_secondary.specs.Serials.{is_newer}
+use Rattle.zone_proto.specs.Serials.{is_newer}
 use Rattle.shown_zones.specs.Steps.{step_of, IsStep}
 use Rattle.shown_zones.specs.declared.step.ZoneStep.{ZoneStep}
 use Rattle.incremental_laws.specs.Versions.{IsVersion, Leads}

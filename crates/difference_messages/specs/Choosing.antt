@@ -2,7 +2,7 @@
 use Rattle.std.specs.Prelude.{ℕ, ◌==◌, Bool, false, not, if◌then◌else◌, List, Option, Some, None}
 use Rattle.std.specs.List.{list_any, position}
 use Rattle.zone_proto.specs.Sets.{first_serial}
-use Rattle.zone_secondary.specs.Serials.{is_newer}
+use Rattle.zone_proto.specs.Serials.{is_newer}
 use Rattle.shown_zones.specs.declared.step.ZoneStep.{ZoneStep}
 use Rattle.difference_messages.specs.declared.choosing.DifferenceReply.{DifferenceReply}
 use Rattle.difference_messages.specs.declared.choosing.DifferenceReply.TheVariants.{StartOfAuthority, StepsFrom, WholeZone}

@@ -2,7 +2,7 @@
 use Rattle.std.specs.Prelude.{◌≡◌, ℕ, ◌<◌, true, List, [], ◌∷◌, length, drop, map}
 use Rattle.zone_proto.specs.Names.{Name, lower}
 use Rattle.zone_map.specs.Zones.{Sets}
-use Rattle.zone_secondary.specs.Serials.{is_newer}
+use Rattle.zone_proto.specs.Serials.{is_newer}
 use Rattle.shown_zones.specs.Steps.{Step, step_of, IsStep}
 use Rattle.shown_zones.specs.declared.step.ZoneStep.{ZoneStep}
 use Rattle.incremental_laws.specs.Versions.{IsVersion, Leads}

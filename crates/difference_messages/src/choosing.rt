@@ -1,12 +1,11 @@
 //! What answers a question for the changes of a zone.
 ghost use Rattle.std.specs.Prelude.{◌≡◌};
 ghost use Rattle.std.specs.List.{list_any, position};
-ghost use Rattle.zone_proto.specs.Sets.{first_serial, soa_serial};
+ghost use Rattle.zone_proto.specs.Sets.{first_serial};
 ghost use Rattle.difference_messages.specs.Choosing.{begins_at, reply_to};
 
 use shown_zones::ZoneStep;
-use zone_proto::{RData, RecordSet};
-use zone_secondary::is_newer;
+use zone_proto::{RecordSet, first_serial, is_newer};
 
 /// What answers a question for the changes of a zone.
 #[derive(Clone, Copy, PartialEq, Eq, Debug)]
@@ -67,18 +66,5 @@ pub fn begins_at(serial: u32, step: &ZoneStep) -> bool
 pub fn serial_of(soa: &RecordSet) -> Option<u32>
     ensures { result ≡ first_serial soa.now.records }
 {
-    match soa.as_slice().first() {
-        Some(first) => soa_serial(&first.rdata),
-        None => None,
-    }
-}
-
-/// The serial of the data of an SOA; none of other data. Doesn't allocate.
-pub fn soa_serial(rdata: &RData) -> Option<u32>
-    ensures { result ≡ soa_serial rdata.now }
-{
-    match rdata {
-        RData::SOA(soa) => Some(soa.serial),
-        _ => None,
-    }
+    first_serial(soa.as_slice())
 }

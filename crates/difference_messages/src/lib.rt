@@ -9,6 +9,6 @@ mod groups;
 pub mod laws;
 mod writing;
 
-pub use choosing::{DifferenceReply, begins_at, has_step_at, reply_to, serial_of, soa_serial};
+pub use choosing::{DifferenceReply, begins_at, has_step_at, reply_to, serial_of};
 pub use groups::difference_groups;
 pub use writing::{DifferenceAnswer, DifferenceFault, write_next};

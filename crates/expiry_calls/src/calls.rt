@@ -3,6 +3,7 @@ ghost use Rattle.zone_database.specs.Databases.{zones_in};
 ghost use Rattle.zone_database.specs.Calls.{ChangesHeld, PutsZone};
 ghost use Rattle.expiry_calls.specs.Expiry.{Expires, ExpiresAt, expired_zone};
 
+use call_handles::Handle;
 use std::alloc::Global;
 use zone_database::{DatabaseHandle, Outcome, ZoneDatabase, origin_of, zone_of};
 use zone_map::RecordMap;

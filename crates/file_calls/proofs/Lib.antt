@@ -1,3 +1,2 @@
-pub mod Handles
 pub mod Loads
 pub mod Texts

@@ -1,4 +1,3 @@
 pub mod Calls
-pub mod Holding
 pub mod Loading
 pub mod Outcomes

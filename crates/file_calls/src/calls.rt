@@ -8,7 +8,7 @@ ghost use Rattle.file_calls.specs.Outcomes.{lack_of};
 
 use crate::handle::FilesHandle;
 use crate::outcome::{FileOutcome, lack_of};
-use call_handles::write_front;
+use call_handles::{Handle, write_front};
 use included_texts::{KeptFile, KeptTexts};
 use std::alloc::Global;
 use std::{mem, str};

@@ -1,83 +1,53 @@
 //! What a caller that isn't Rattle keeps of texts of files.
-ghost use Rattle.std.specs.Prelude.{◌≡◌, Some, None, Option, MatchOption};
-ghost use Rattle.file_calls.specs.Holding.{held_code, owns_held};
+ghost use Rattle.std.specs.Coded.{coded_option};
+ghost use Rattle.std.specs.Prelude.{◌≡◌, Option};
+ghost use Rattle.call_handles.specs.Holding.{owns_held};
 ghost use Rattle.included_texts.specs.declared.kept.KeptTexts.{KeptTexts as Kept};
+ghost use Rattle.included_texts.specs.contracts.kept.KeptTexts.{the_row};
 
-use call_handles::RawBox;
+use call_handles::{Handle, NullableBox};
 use included_texts::KeptTexts;
 use std::alloc::Global;
 use std::marker::Model;
-use std::{mem, ptr};
 
 /// Texts of files behind a pointer, which is null if there are none. In memory it is that pointer alone.
 #[repr(C)]
 pub struct FilesHandle {
     ptr: *mut u8,
     alloc: Global,
-    pub ghost held: { Option Kept } by { held_code },
+    pub ghost held: { Option Kept } by { coded_option the_row.coded },
 }
 
 impl Model for FilesHandle {
-    ghost also_owns = { λ h. owns_held h.alloc h.ptr h.held };
+    ghost also_owns = { λ h. owns_held the_row h.alloc h.ptr h.held };
 }
 
-impl FilesHandle {
-    /// A handle that holds nothing.
-    pub fn empty(alloc: Global) -> FilesHandle
-        ensures { result.held ≡ None }
-    {
-        let ptr = ptr::null_mut();
-        FilesHandle { ptr, alloc }
-    }
+impl Handle for FilesHandle {
+    type Content = KeptTexts;
 
-    /// A handle of texts.
-    fn full(texts: RawBox<KeptTexts, Global>) -> FilesHandle
-        ensures { result.held ≡ Some texts.content }
+    ghost held = { λ h. h.held };
+
+    fn from_raw(raw: NullableBox<KeptTexts>) -> FilesHandle
+        ensures { result.held ≡ raw.content }
     {
-        let RawBox { ptr, alloc } = texts;
+        let NullableBox { ptr, alloc } = raw;
         let ptr = ptr as *mut u8;
         FilesHandle { ptr, alloc }
     }
 
-    /// What the handle holds.
-    fn content(self) -> Option<RawBox<KeptTexts, Global>>
-        ensures { MatchOption result (self.held ≡ None) (λ raw. self.held ≡ Some raw.content) }
+    fn into_raw(self) -> NullableBox<KeptTexts>
+        ensures { result.content ≡ self.held }
     {
         let FilesHandle { ptr, alloc } = self;
         let ptr = ptr as *mut KeptTexts;
-        if ptr.is_null() {
-            None
-        } else {
-            Some(RawBox { ptr, alloc })
-        }
-    }
-
-    /// Takes the texts out.
-    pub fn take(&mut self, alloc: Global) -> Option<Box<KeptTexts>>
-        ensures taken { MatchOption result (self.old.held ≡ None)
-            (λ texts. self.old.held ≡ Some texts.value) }
-        ensures left { self.new.held ≡ None }
-    {
-        match mem::replace(self, FilesHandle::empty(alloc)).content() {
-            Some(raw) => Some(raw.whole()),
-            None => None,
-        }
-    }
-
-    /// Puts texts in place of what is held.
-    pub fn put(&mut self, texts: Box<KeptTexts>)
-        ensures { self.new.held ≡ Some texts.value }
-    {
-        drop(mem::replace(self, FilesHandle::full(RawBox::apart(texts))));
+        NullableBox { ptr, alloc }
     }
 }
 
 /// Gives the memory of the texts back.
 impl Drop for FilesHandle {
     fn drop(self) {
-        if let Some(raw) = self.content() {
-            drop(raw.whole());
-        }
+        drop(self.into_raw().whole());
     }
 }
 

@@ -15,6 +15,7 @@ use crate::handle::FilesHandle;
 use crate::outcome::FileOutcome;
 use crate::reading::read_kept;
 use crate::reporting::{tell, tell_fault, tell_faults, tell_warnings};
+use call_handles::Handle;
 use included_texts::KeptTexts;
 use std::alloc::Global;
 use std::str;

@@ -7,10 +7,7 @@ ghost use Rattle.included_texts.specs.Kept.{files_of, IsSame, kept_of};
 use included_texts::{FileTexts, KeptTexts};
 use std::alloc::Global;
 use zone_proto::Name;
-use zone_texts::{FilesError, Reading, read_files};
-
-/// The most faults that are told.
-const MOST_TOLD: usize = 20;
+use zone_texts::{FilesError, MOST_TOLD, Reading, read_files};
 
 /// Reads a file of this name and text, with those that it includes, of which nothing else is wanted then but what isn't kept. None for lack
 /// of memory.

@@ -6,7 +6,8 @@ use Rattle.zone_proto.specs.Sets.{RRset, first_serial}
 use Rattle.zone_proto.specs.Types.{SOA}
 use Rattle.zone_map.specs.Zones.{set_at}
 use Rattle.zone_server.specs.Limits.{datagram_size}
-use Rattle.zone_server.specs.Transfers.{client_serial, IXFR}
+use Rattle.zone_proto.specs.Types.{IXFR}
+use Rattle.zone_server.specs.Transfers.{client_serial}
 use Rattle.zone_database.specs.declared.zone.Zone.{Zone}
 use Rattle.transfer_messages.specs.Sending.{room}
 use Rattle.shown_zones.specs.declared.step.ZoneStep.{ZoneStep}

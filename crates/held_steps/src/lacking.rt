@@ -5,21 +5,16 @@ ghost use Rattle.held_steps.specs.Lacking.{lacked, lacked_by, steps_to, GivesLac
 
 use crate::histories::HeldSteps;
 use crate::history::ZoneHistory;
-use crate::serials::{client_serial, serial_in};
+use crate::serial::serial_in;
 use held_transfers::HeldTransfer;
 use kept_steps::KeptSteps;
 use shown_zones::ZoneStep;
 use std::alloc::{AllocError, Global};
 use step_answers::step_messages;
+use transfer_messages::ROOM;
 use zone_database::Zone;
 use zone_proto::RecordType;
-use zone_server::{DATAGRAM_SIZE, soa_key};
-
-/// The type of a query for what changed in a zone (RFC 1995 section 3).
-const IXFR: RecordType = RecordType(251);
-
-/// How many octets a message has at most before it is signed: 65,535 without the 358 that a TSIG has at most.
-const ROOM: u16 = 65_177;
+use zone_server::{DATAGRAM_SIZE, client_serial, soa_key};
 
 /// The messages of the steps that the one who asks lacks, of whom this is the message, where the zone is being sent. None where the steps
 /// aren't kept, or a record can't be sent. Fails only for lack of memory.
@@ -66,7 +61,7 @@ fn lacked<'s>(
     ensures { IfOk result (λ given. option_map (λ x. x.now) given
         ≡ lacked steps.now held.now message.now) }
 {
-    if held.transfer.query.question.query_type != IXFR {
+    if held.transfer.query.question.query_type != RecordType::IXFR {
         return Ok(None);
     }
     match client_serial(alloc, message)? {

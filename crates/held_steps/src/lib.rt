@@ -11,7 +11,7 @@ mod history;
 mod lacking;
 pub mod laws;
 mod sealing;
-mod serials;
+mod serial;
 
 pub use held_answer::HeldAnswer;
 pub use histories::HeldSteps;

@@ -7,6 +7,6 @@ use Rattle.held_updates.specs.Laws.{JournalsGrowByUpdates}
 
 pub journals_grow : JournalsGrowByUpdates
 journals_grow z u a bs journal framed is last =
-    grow u.zone.origin a u.zone.inner.records bs journal (journal ++ u.frame.items) framed.step is framed.zone
-    (subst (λ (m : Sets). IsStep u.zone.origin m u.zone.inner.records framed.step) (sym last) framed.leads)
-    record { text = framed.put.text; put = ap (λ (o : List ℕ). journal ++ o) framed.put.put; within = framed.put.within; reads = framed.put.reads }
+    grow u.zone.origin a u.zone.inner.records bs journal (journal ++ u.frame.items) framed.1.step is framed.1.zone
+    (subst (λ (m : Sets). IsStep u.zone.origin m u.zone.inner.records framed.1.step) (sym last) framed.1.leads)
+    record { text = framed.1.put.text; put = ap (λ (o : List ℕ). journal ++ o) framed.1.put.put; within = framed.1.put.within; reads = framed.1.put.reads }

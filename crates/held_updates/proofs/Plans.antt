@@ -32,7 +32,7 @@ use Rattle.held_updates.specs.declared.planned.UpdatedZone.{UpdatedZone}
 use Rattle.held_updates.specs.Tables.{rules_for}
 use Rattle.held_updates.specs.Answering.{AnswersUpdate, Comes}
 use Rattle.held_updates.specs.Journaling.{IfUpdated, IsJournaled, IsPlanJournaled}
-use Rattle.held_updates.specs.Planning.{is_signed, is_update, outcome_among, outcome_in, signing_of, updated_in, Plans, PlansAs, PlansBy, PlansSigned, PlansUpdate, RepliesTo}
+use Rattle.held_updates.specs.Planning.{has_expired, is_signed, is_update, outcome_among, outcome_in, signing_of, updated_in, Plans, PlansAs, PlansBy, PlansSigned, PlansUpdate, RepliesTo, RepliesWith}
 
 -- ---- the zone of an update
 
@@ -45,8 +45,8 @@ in_its_zone : (rules : List Rule) (key : Option Name) (zone : Option Zone) (p : 
     → updated_in rules key (lower p.zone) zone p.prerequisites p.changes ≡ outcome_in rules key (lower p.zone) zone p
 in_its_zone rules key None p = refl
 in_its_zone rules key (Some z) p =
-    ap (λ (b : Bool). cond (is_signed z) (Err Refused) (cond b (updated_if_permitted rules key (lower p.zone) z.inner.records p.prerequisites p.changes) (Err NotAuth)))
-    (sym (its_own p.zone))
+    ap (λ (b : Bool). cond (has_expired z) (Err Memory) (cond (is_signed z) (Err Refused)
+    (cond b (updated_if_permitted rules key (lower p.zone) z.inner.records p.prerequisites p.changes) (Err NotAuth)))) (sym (its_own p.zone))
 
 module _ (access : UpdateAccess) (key : Option Name) (zs : List Zone) (asked : UpdateMessage) (origin : Name) (zone : Option Zone) (rules : List Rule) where
   abbrev p : Parts
@@ -61,26 +61,37 @@ module _ (access : UpdateAccess) (key : Option Name) (zs : List Zone) (asked : U
       ∙ ap (λ (rs : List Rule). outcome_in rs key (lower p.zone) zone p) (table ∙ ap (λ (n : Name). rules_for n access.tables.entries) o)
       ∙ ap (λ (z : Option Zone). outcome_in (rules_for (lower p.zone) access.tables.entries) key (lower p.zone) z p) (found ∙ ap (λ (n : Name). find (begins_at n) zs) o)
 
-  pub planned_of : (made : Result Sets Refusal) (x : PlannedUpdate) (octets : List ℕ) → origin ≡ lower asked.zone → zone ≡ find (begins_at origin) zs
+  pub planned_of : (made : Result (Option Sets) Refusal) (x : PlannedUpdate) (octets : List ℕ) → origin ≡ lower asked.zone → zone ≡ find (begins_at origin) zs
       → rules ≡ rules_for origin access.tables.entries → Gives made (updated_in rules key origin zone asked.update.prerequisites.items asked.update.changes.items)
       → RepliesTo made origin asked.header asked.has_extension x octets → Plans (outcome_among access key zs) (Ok p) x octets
-  planned_of (Ok after) (planned.Updated u) octets o found table gives (text, is) =
+  planned_of (Ok (Some after)) (planned.Updated u) octets o found table gives (text, is) =
       let its : u.zone.origin ≡ origin = ap (λ (y : Zone). y.origin) is in
       (after, (sym (among o found table) ∙ gives, text), its ∙ o, is ∙ ap (λ (n : Name). zone_of_records n after) (sym its))
-  planned_of (Ok after) planned.Refused octets o found table gives text = (Memory, tt, text)
-  planned_of (Ok after) planned.Other octets o found table gives replied = absurd replied
-  planned_of (Err e) planned.Refused octets o found table gives text = (e, subst (λ (r : Result Sets Refusal). IsRefusal e r) (among o found table) gives, text)
-  planned_of (Err e) (planned.Updated u) octets o found table gives replied = absurd replied
-  planned_of (Err e) planned.Other octets o found table gives replied = absurd replied
+  planned_of (Ok (Some after)) planned.Refused octets o found table gives text = (Memory, tt, text)
+  planned_of (Ok (Some after)) planned.Unchanged octets o found table gives replied = absurd replied
+  planned_of (Ok (Some after)) planned.Other octets o found table gives replied = absurd replied
+  planned_of (Ok None) x octets o found table gives (is, text) =
+      subst (λ (y : PlannedUpdate). Plans (outcome_among access key zs) (Ok p) y octets) (sym is) (sym (among o found table) ∙ gives, text)
+  planned_of (Err e) x octets o found table gives (is, text) =
+      subst (λ (y : PlannedUpdate). Plans (outcome_among access key zs) (Ok p) y octets) (sym is)
+      (e, subst (λ (r : Result (Option Sets) Refusal). IsRefusal e r) (among o found table) gives, text)
 
   -- and so is what the journal of the zone gets
-  pub journaled_in : (is_kept : Bool) (made : Result Sets Refusal) (x : PlannedUpdate) (octets : List ℕ) → zone ≡ find (begins_at origin) zs → RepliesTo made origin asked.header asked.has_extension x octets
-      → IfUpdated (IsJournaled is_kept zone) x → IsPlanJournaled is_kept zs x
-  journaled_in is_kept (Ok after) (planned.Updated u) octets found (text, is) framed =
+  pub journaled_in : (is_kept : Bool) (made : Result (Option Sets) Refusal) (x : PlannedUpdate) (octets : List ℕ) → zone ≡ find (begins_at origin) zs
+      → RepliesTo made origin asked.header asked.has_extension x octets → IfUpdated (IsJournaled is_kept zone) x → IsPlanJournaled is_kept zs x
+  journaled_in is_kept (Ok (Some after)) (planned.Updated u) octets found (text, is) framed =
       subst (λ (o : Option Zone). IsJournaled is_kept o u) (found ∙ ap (λ (n : Name). find (begins_at n) zs) (sym (ap (λ (y : Zone). y.origin) is))) framed
-  journaled_in is_kept (Err e) (planned.Updated u) octets found replied framed = absurd replied
+  journaled_in is_kept (Ok None) (planned.Updated u) octets found (is, text) framed = absurd cc
+  journaled_in is_kept (Err e) (planned.Updated u) octets found (is, text) framed = absurd cc
   journaled_in is_kept made planned.Refused octets found replied framed = tt
+  journaled_in is_kept made planned.Unchanged octets found replied framed = tt
   journaled_in is_kept made planned.Other octets found replied framed = tt
+
+-- what comes of an update that makes a zone is what comes of this zone
+pub replied_with : (made : Result (Option Sets) Refusal) (after : Sets) (origin : Name) (z : Zone) (h : Header) (has_extension : Bool) (x : PlannedUpdate) (octets : List ℕ)
+    → made ≡ Ok (Some after) → z ≡ zone_of_records origin after → RepliesWith z h has_extension x octets → RepliesTo made origin h has_extension x octets
+replied_with made after origin z h has_extension x octets is its replied =
+    subst (λ (r : Result (Option Sets) Refusal). RepliesTo r origin h has_extension x octets) (sym is) (subst (λ (y : Zone). RepliesWith y h has_extension x octets) its replied)
 
 -- ---- what was planned comes
 

@@ -14,6 +14,7 @@ use Rattle.held_updates.specs.Planning.{PlansUpdate}
 abbrev pub Comes : ℕ → List ℕ → PlannedUpdate → List Zone → UpdateAnswer → List Zone → Type 0
 Comes room octets planned.Other zs a new = (a ≡ answer.Other) × (new ≡ zs)
 Comes room octets planned.Refused zs a new = (a ≡ answer.Refused) × (new ≡ zs)
+Comes room octets planned.Unchanged zs a new = (a ≡ answer.Unchanged) × (new ≡ zs)
 Comes room octets (planned.Updated u) zs a new =
     ((length octets ≤ room) × (a ≡ answer.Updated u.zone.origin) × (new ≡ with_zone u.zone zs)) ⊎ ((room < length octets) × (a ≡ answer.TooLong) × (new ≡ zs))
 

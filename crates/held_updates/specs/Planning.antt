@@ -10,7 +10,7 @@ use Rattle.message_tsig.specs.declared.tsig.Tsig.{Tsig}
 use Rattle.message_tsig.specs.Checking.{Checked, unsigned, malformed, refused, signed, checked_of, IsAuthentic}
 use Rattle.message_tsig.specs.Signing.{Signing, of_request, refused_text, signed_message}
 use Rattle.zone_proto.specs.Names.{Name, lower}
-use Rattle.zone_proto.specs.Types.{DNSKEY}
+use Rattle.zone_proto.specs.Types.{DNSKEY, SOA}
 use Rattle.zone_map.specs.Zones.{Sets, owns}
 use Rattle.update_policy.specs.declared.rule.Rule.{Rule}
 use Rattle.zone_update.specs.declared.entry.Entry.{Entry}
@@ -22,6 +22,7 @@ use Rattle.update_message.specs.declared.message.UpdateError.{UpdateError}
 use Rattle.update_message.specs.declared.message.UpdateError.TheVariants as unread
 use Rattle.update_permission.specs.Permissions.{updated_if_permitted}
 use Rattle.update_answers.specs.Replies.{outcome, reply_text, IsReply}
+use Rattle.update_answers.specs.declared.answering.UpdateReply.TheVariants as reply
 use Rattle.zone_database.specs.declared.zone.Zone.{Zone}
 use Rattle.zone_database.specs.Databases.{begins_at}
 use Rattle.zone_database.specs.Zones.{zone_of_records}
@@ -32,18 +33,27 @@ use Rattle.held_updates.specs.Tables.{rules_for}
 
 -- ---- the zone of an update
 
+-- a zone has expired, or was never there to be served: it has no SOA at its origin
+abbrev pub has_expired : Zone → Bool
+has_expired z = not (owns z.inner.records z.origin SOA)
+
 -- a zone is signed: it denies by NSEC or NSEC3, or has keys at its origin (RFC 4035 section 2)
 abbrev pub is_signed : Zone → Bool
 is_signed z = is_some z.nx_proof_kind || owns z.inner.records z.origin DNSKEY
 
--- What an update makes of the zone of an origin: a zone that isn't there isn't this server's (RFC 2136 section 3.1.2), and one that is signed
--- isn't updated, since its chain wouldn't be closed, and signatures would be missing.
-abbrev pub outcome_in : List Rule → Option Name → Name → Option Zone → Parts → Result Sets Refusal
-outcome_in rules key origin None p = Err NotAuth
-outcome_in rules key origin (Some z) p = if is_signed z then Err Refused else outcome rules key origin z.inner.records p
+-- What an update makes of the zone of an origin, by how it ends where that zone can be changed; none where it changes nothing. A zone that isn't
+-- there isn't this server's (RFC 2136 section 3.1.2). One that has expired gets SERVFAIL, as its queries do (RFC 1034 section 4.3.5): what the
+-- zone is isn't known here any more, and RFC 2136 has no code for that. One that is signed isn't updated, since its chain wouldn't be closed,
+-- and signatures would be missing.
+abbrev pub if_changeable : Option Zone → (Zone → Result (Option Sets) Refusal) → Result (Option Sets) Refusal
+if_changeable None made = Err NotAuth
+if_changeable (Some z) made = if has_expired z then Err Memory else (if is_signed z then Err Refused else made z)
+
+abbrev pub outcome_in : List Rule → Option Name → Name → Option Zone → Parts → Result (Option Sets) Refusal
+outcome_in rules key origin zone p = if_changeable zone (λ z. outcome rules key origin z.inner.records p)
 
 -- the same among the zones of a database, by the rules of the zone that the update names
-abbrev pub outcome_among : UpdateAccess → Option Name → List Zone → Parts → Result Sets Refusal
+abbrev pub outcome_among : UpdateAccess → Option Name → List Zone → Parts → Result (Option Sets) Refusal
 outcome_among access key zs p =
     let origin : Name = lower p.zone in
     outcome_in (rules_for origin access.tables.entries) key origin (find (begins_at origin) zs) p
@@ -56,12 +66,13 @@ IsItsOrigin origin (Ok p) = origin ≡ lower p.zone
 IsItsOrigin origin (Err e) = ⊥
 
 -- What is planned of what was read, where an update has this outcome: nothing, of what is no update; a response alone, of an update that is
--- refused; and of one that is taken that the zone after it stands in place of the one before (section 3.5).
-abbrev pub Plans : (Parts → Result Sets Refusal) → Result Parts UpdateError → PlannedUpdate → List ℕ → Type 0
+-- refused or changes nothing; and of another that the zone after it stands in place of the one before (section 3.5).
+abbrev pub Plans : (Parts → Result (Option Sets) Refusal) → Result Parts UpdateError → PlannedUpdate → List ℕ → Type 0
 Plans outcome read planned.Other octets = read ≡ Err unread.NoUpdate
-Plans outcome read planned.Refused octets = IsReply outcome read None octets
+Plans outcome read planned.Refused octets = IsReply outcome read reply.Refused octets
+Plans outcome read planned.Unchanged octets = IsReply outcome read reply.Unchanged octets
 Plans outcome read (planned.Updated u) octets =
-    (after : Sets) × IsReply outcome read (Some after) octets × IsItsOrigin u.zone.origin read × (u.zone ≡ zone_of_records u.zone.origin after)
+    (after : Sets) × IsReply outcome read (reply.Updated after) octets × IsItsOrigin u.zone.origin read × (u.zone ≡ zone_of_records u.zone.origin after)
 
 -- ---- a message
 
@@ -109,15 +120,17 @@ PlansUpdate access now message zs p octets = PlansHeader access now message (hea
 -- ---- on the way
 
 -- what an update makes of the zone of an origin, by its sections
-abbrev pub updated_in : List Rule → Option Name → Name → Option Zone → List Entry → List Entry → Result Sets Refusal
-updated_in rules key origin None prerequisites changes = Err NotAuth
-updated_in rules key origin (Some z) prerequisites changes =
-    if is_signed z then Err Refused else updated_if_permitted rules key origin z.inner.records prerequisites changes
+abbrev pub updated_in : List Rule → Option Name → Name → Option Zone → List Entry → List Entry → Result (Option Sets) Refusal
+updated_in rules key origin zone prerequisites changes = if_changeable zone (λ z. updated_if_permitted rules key origin z.inner.records prerequisites changes)
 
--- What is to come of an update of the zone of an origin that ended so, and the response to it. SERVFAIL may come in place of each response, for want
--- of memory, or since a journal can't take the change.
-abbrev pub RepliesTo : Result Sets Refusal → Name → Header → Bool → PlannedUpdate → List ℕ → Type 0
-RepliesTo (Ok after) origin h has_extension (planned.Updated u) octets = (octets ≡ reply_text h 0 has_extension) × (u.zone ≡ zone_of_records origin after)
-RepliesTo (Err e) origin h has_extension planned.Refused octets = octets ≡ reply_text h (code_of e) has_extension
-RepliesTo (Ok after) origin h has_extension planned.Refused octets = octets ≡ reply_text h (code_of Memory) has_extension
-RepliesTo made origin h has_extension p octets = ⊥
+-- What is to come of an update that makes this zone, and the response to it. SERVFAIL may come in its place, since a journal can't take the change.
+abbrev pub RepliesWith : Zone → Header → Bool → PlannedUpdate → List ℕ → Type 0
+RepliesWith z h has_extension (planned.Updated u) octets = (octets ≡ reply_text h 0 has_extension) × (u.zone ≡ z)
+RepliesWith z h has_extension planned.Refused octets = octets ≡ reply_text h (code_of Memory) has_extension
+RepliesWith z h has_extension p octets = ⊥
+
+-- the same of an update of the zone of an origin that ended so
+abbrev pub RepliesTo : Result (Option Sets) Refusal → Name → Header → Bool → PlannedUpdate → List ℕ → Type 0
+RepliesTo (Ok (Some after)) origin h has_extension p octets = RepliesWith (zone_of_records origin after) h has_extension p octets
+RepliesTo (Ok None) origin h has_extension p octets = (p ≡ planned.Unchanged) × (octets ≡ reply_text h 0 has_extension)
+RepliesTo (Err e) origin h has_extension p octets = (p ≡ planned.Refused) × (octets ≡ reply_text h (code_of e) has_extension)

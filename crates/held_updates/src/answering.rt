@@ -17,6 +17,8 @@ pub enum UpdateAnswer {
     Other,
     /// The response is there, and the zones are as they were: the update is refused, or its TSIG.
     Refused,
+    /// The response is there, and the zones are as they were: the update is carried out, and changes nothing.
+    Unchanged,
     /// The response is there, and is longer than the room for it; so the zones are as they were.
     TooLong,
     /// The response is there, and the zone of this origin was replaced by the one after the update.
@@ -67,6 +69,7 @@ fn settle(
     match planned {
         PlannedUpdate::Other => Ok(UpdateAnswer::Other),
         PlannedUpdate::Refused => Ok(UpdateAnswer::Refused),
+        PlannedUpdate::Unchanged => Ok(UpdateAnswer::Unchanged),
         PlannedUpdate::Updated(updated) => {
             if response.len() > room {
                 drop(updated);

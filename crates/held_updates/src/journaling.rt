@@ -1,7 +1,8 @@
 //! What the journal of a zone gets of an update.
 ghost use Rattle.std.specs.Prelude.{◌≡◌, IfOk, option_copied};
-ghost use Rattle.held_updates.specs.Journaling.{IsFrameFrom, IsJournaled};
+ghost use Rattle.held_updates.specs.Journaling.{IsFrameFrom, IsFrameIf, IsJournaled};
 
+use crate::committing::serial_of;
 use crate::planned::UpdatedZone;
 use shown_zones::step_between;
 use std::alloc::Global;
@@ -9,8 +10,8 @@ use zone_database::Zone;
 use zone_journal::{EntryFault, push_step};
 use zone_proto::Name;
 
-/// A zone after an update, with what its journal gets if one is kept; `before` is the zone before it. Refused as `write_entry` of `zone_journal`
-/// refuses the step from one to the other.
+/// A zone after an update, with the serial of the one before it and what its journal gets if one is kept; `before` is the zone before it. Refused as
+/// `write_entry` of `zone_journal` refuses the step from one to the other.
 pub(crate) fn journaled(
     alloc: Global,
     is_kept: bool,
@@ -18,21 +19,39 @@ pub(crate) fn journaled(
     zone: Zone,
 ) -> Result<UpdatedZone, EntryFault>
     ensures zone { IfOk result (λ updated. updated.zone ≡ zone) }
-    ensures frame { IfOk result (IsJournaled is_kept (option_copied before.entry)) }
+    ensures journaled { IfOk result (IsJournaled is_kept (option_copied before.entry)) }
 {
-    if !is_kept {
-        return Ok(UpdatedZone {
+    let Ok(replaces) = serial_of(before) else {
+        drop(zone);
+        return Err(EntryFault::Memory);
+    };
+    match frame_if(alloc, is_kept, before, &zone) {
+        Ok(frame) => Ok(UpdatedZone {
             zone,
-            frame: Vec::new(alloc),
-        });
-    }
-    match frame_of(alloc, before, &zone) {
-        Ok(frame) => Ok(UpdatedZone { zone, frame }),
+            replaces,
+            frame,
+        }),
         Err(fault) => {
             drop(zone);
             Err(fault)
         }
     }
+}
+
+/// What the journal of a zone gets of the step from one version to another, if one is kept, and else no octets.
+fn frame_if(
+    alloc: Global,
+    is_kept: bool,
+    before: Option<&Zone>,
+    after: &Zone,
+) -> Result<Vec<u8>, EntryFault>
+    ensures { IfOk result
+        (λ frame. IsFrameIf is_kept (option_copied before.entry) after.now frame.items) }
+{
+    if !is_kept {
+        return Ok(Vec::new(alloc));
+    }
+    frame_of(alloc, before, after)
 }
 
 /// What the journal of a zone gets of the step from one version to another.

@@ -7,8 +7,9 @@ use zone_database::Zone;
 pub struct UpdatedZone {
     /// The zone. It is to take the place of the one of its origin.
     pub zone: Zone,
-    /// Where journals are kept, the frame that the journal of the zone gets first (`zone_journal`), unless the SOA stayed as it was; and else no
-    /// octets.
+    /// The serial of the zone that was updated.
+    pub replaces: Option<u32>,
+    /// Where journals are kept, the frame that the journal of the zone gets first (`zone_journal`), and else no octets.
     pub frame: Vec<u8>,
 }
 
@@ -19,6 +20,8 @@ pub enum PlannedUpdate {
     Other,
     /// The response, and nothing else: the update is refused, or its TSIG.
     Refused,
+    /// The response, and nothing else: the update is carried out, and changes nothing.
+    Unchanged,
     /// The response, once this zone stands in its place.
     Updated(UpdatedZone),
 }

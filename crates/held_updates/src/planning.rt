@@ -6,12 +6,12 @@ ghost use Rattle.zone_database.specs.Databases.{zones_in};
 ghost use Rattle.zone_database.specs.Zones.{zone_of_records};
 ghost use Rattle.zone_update.specs.Entries.{code_of, Gives};
 ghost use Rattle.held_updates.specs.Journaling.{IfUpdated, IsJournaled, IsPlanJournaled};
-ghost use Rattle.held_updates.specs.Planning.{outcome_among, updated_in, Plans, RepliesTo};
+ghost use Rattle.held_updates.specs.Planning.{outcome_among, updated_in, Plans, RepliesTo, RepliesWith};
 
 use crate::access::UpdateAccess;
+use crate::fixed_zones::{has_expired, is_signed};
 use crate::journaling::journaled;
 use crate::planned::{PlannedUpdate, UpdatedZone};
-use crate::signed_zones::is_signed;
 use message_reading::Header;
 use std::alloc::{AllocError, Global};
 use update_message::{OPCODE, UpdateError, UpdateMessage, read_update, write_response};
@@ -94,12 +94,13 @@ fn plan_asked(
     Ok(planned)
 }
 
-/// Writes the response to an update of the zone of an origin that ended so. SERVFAIL goes out where a journal can't take it.
+/// Writes the response to an update of the zone of an origin that ended so.
+#[tactic(auto, using(crate::proofs::Plans::replied_with))]
 fn reply(
     alloc: Global,
     origin: LowerName,
     before: Option<&Zone>,
-    after: Result<RecordMap, Refusal>,
+    after: Result<Option<RecordMap>, Refusal>,
     is_kept: bool,
     header: Header,
     has_extension: bool,
@@ -109,14 +110,37 @@ fn reply(
         RepliesTo after origin header has_extension planned out.new.items) }
     ensures journaled { IfOk result (IfUpdated (IsJournaled is_kept (option_copied before.entry))) }
 {
-    let after = match after {
-        Ok(after) => after,
+    match after {
+        Ok(Some(after)) => {
+            let zone = zone_after(alloc, origin, after)?;
+            let planned = reply_with(alloc, before, zone, is_kept, header, has_extension, out)?;
+            Ok(planned)
+        }
+        Ok(None) => {
+            respond(out, header, 0, has_extension)?;
+            Ok(PlannedUpdate::Unchanged)
+        }
         Err(refusal) => {
             refuse(out, header, refusal, has_extension)?;
-            return Ok(PlannedUpdate::Refused);
+            Ok(PlannedUpdate::Refused)
         }
-    };
-    let zone = zone_after(alloc, origin, after)?;
+    }
+}
+
+/// The same where this is the zone after the update. SERVFAIL goes out where a journal can't take it.
+fn reply_with(
+    alloc: Global,
+    before: Option<&Zone>,
+    zone: Zone,
+    is_kept: bool,
+    header: Header,
+    has_extension: bool,
+    out: &mut Vec<u8>,
+) -> Result<PlannedUpdate, AllocError>
+    ensures reply { IfOk result (λ planned.
+        RepliesWith zone header has_extension planned out.new.items) }
+    ensures journaled { IfOk result (IfUpdated (IsJournaled is_kept (option_copied before.entry))) }
+{
     match journaled(alloc, is_kept, before, zone) {
         Ok(updated) => accept(out, header, has_extension, updated),
         Err(EntryFault::Memory) => Err(AllocError),
@@ -146,7 +170,8 @@ fn accept(
     }
 }
 
-/// The sets of the zone of an origin after an update, if there is such a zone, and it isn't signed.
+/// The sets of the zone of an origin after an update, or none where it changes nothing, if there is such a zone, which has neither expired nor is
+/// signed.
 fn updated_in(
     alloc: Global,
     rules: &[Rule],
@@ -154,7 +179,7 @@ fn updated_in(
     origin: &LowerName,
     zone: Option<&Zone>,
     update: Update,
-) -> Result<RecordMap, Refusal>
+) -> Result<Option<RecordMap>, Refusal>
     ensures { Gives result
         (updated_in rules.now (option_copied key.entry) origin.now (option_copied zone.entry)
         update.prerequisites.items update.changes.items) }
@@ -162,12 +187,12 @@ fn updated_in(
     let Some(zone) = zone else {
         return Err(Refusal::NotAuth);
     };
-    match is_signed(zone) {
-        Ok(false) => {
+    match (has_expired(zone), is_signed(zone)) {
+        (Ok(false), Ok(false)) => {
             updated_if_permitted(alloc, rules, key, origin, zone.inner.record_map(), update)
         }
-        Ok(true) => Err(Refusal::Refused),
-        Err(_) => Err(Refusal::Memory),
+        (Ok(false), Ok(true)) => Err(Refusal::Refused),
+        _ => Err(Refusal::Memory),
     }
 }
 

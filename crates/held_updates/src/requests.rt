@@ -22,16 +22,15 @@ use zone_update::Refusal;
 ///
 /// Where the TSIG can't be read the response is FORMERR, and where it is refused NOTAUTH with the error: BADKEY, BADSIG, BADTIME or BADTRUNC
 /// (RFC 8945 sections 5.2 and 5.3.2). Otherwise the code is FORMERR for octets that aren't of the form of an update (RFC 2136 section 3.1.1);
-/// NOTAUTH where the database has no zone of the name and the class (section 3.1.2); REFUSED for a zone that is signed, since its chain
-/// wouldn't be closed, and signatures would be missing; and what `updated_if_permitted` of `update_permission` says: REFUSED without a TSIG.
-/// SERVFAIL may come in place of each of these, for want of memory, or where a journal can't take the change: `write_entry` of `zone_journal`
-/// refuses it. The response to a message that was found signed is signed by its key.
+/// NOTAUTH where the database has no zone of the name and the class (section 3.1.2); SERVFAIL for a zone that has expired, as for its queries (RFC
+/// 1034 section 4.3.5); REFUSED for a zone that is signed, since its chain wouldn't be closed, and signatures would be missing; and what
+/// `updated_if_permitted` of `update_permission` says: REFUSED without a TSIG. SERVFAIL may come in place of each of these, for want of memory, or
+/// where a journal can't take the change: `write_entry` of `zone_journal` refuses it. The response to a message that was found signed is signed by
+/// its key.
 ///
-/// The response goes out when the zone after the update stands in place of the one of its origin (RFC 2136 section 3.5), which is for the caller: `put`
-/// of the database does it. Where journals are kept, `is_kept`, the frame of the zone has to be in the file of its journal before, and synced, so
-/// that no version is served that a crash would take back. An update that changes nothing leaves the SOA as it was (section 3.6): then the frame is
-/// left out, since no two versions of a journal may have one SOA. A caller that lets time pass in between looks whether the zone of the origin
-/// still is the one that was updated.
+/// An update that changes nothing is done with its response. Of another the response goes out when the zone after it stands in place of the one
+/// of its origin (RFC 2136 section 3.5), by [`commit_update`](crate::commit_update). Where journals are kept, `is_kept`, the frame of the zone has to
+/// be in the file of its journal before, and synced, so that no version is served that a crash would take back.
 ///
 /// # Errors
 ///

@@ -8,10 +8,7 @@ use std::alloc::Global;
 use std::fs;
 use std::io::{Read, Write};
 use zone_proto::Name;
-use zone_texts::{FilesError, Reading, Texts, read_files};
-
-/// How many faults of a zone file are told.
-const MOST_TOLD: usize = 20;
+use zone_texts::{FilesError, MOST_TOLD, Reading, Texts, read_files};
 
 /// Appends the octets of a file to a text. None if it can't be read, which is told; the text may have some of them then.
 pub fn read_file<E: Write>(

@@ -5,7 +5,7 @@ use Rattle.zone_proto.specs.Sets.{RRset}
 use Rattle.zone_proto.specs.Types.{SOA}
 use Rattle.zone_proto.specs.declared.record.Record.{Record}
 use Rattle.zone_map.specs.Zones.{Sets, set_at}
-use Rattle.zone_secondary.specs.Serials.{is_newer}
+use Rattle.zone_proto.specs.Serials.{is_newer}
 use Rattle.zone_secondary.specs.declared.secondary.Question.TheVariants.{Changes}
 use Rattle.shown_zones.specs.Sending.{sent_steps}
 use Rattle.shown_zones.specs.Steps.{Step}

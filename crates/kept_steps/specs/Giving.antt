@@ -1,7 +1,7 @@
 -- The kept steps that a secondary lacks (RFC 1995 section 4)
 use Rattle.std.specs.Prelude.{ℕ, not, ◌||◌, if◌then◌else◌, List, [], ◌∷◌, Option, Some, None}
 use Rattle.std.specs.List.{list_any}
-use Rattle.zone_secondary.specs.Serials.{is_newer}
+use Rattle.zone_proto.specs.Serials.{is_newer}
 use Rattle.shown_zones.specs.declared.step.ZoneStep.{ZoneStep}
 use Rattle.difference_messages.specs.Choosing.{begins_at}
 

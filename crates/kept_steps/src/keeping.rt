@@ -9,7 +9,7 @@ use difference_messages::has_step_at;
 use shown_zones::ZoneStep;
 use std::alloc::{AllocError, Global};
 use std::marker::Model;
-use zone_secondary::is_newer;
+use zone_proto::is_newer;
 
 /// The newest steps of a zone, each from one version to the next.
 #[derive(Drop)]

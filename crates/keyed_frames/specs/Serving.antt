@@ -10,7 +10,6 @@ use Rattle.held_transfers.specs.declared.access.TransferAccess.{TransferAccess}
 use Rattle.held_transfers.specs.declared.answering.KeyedAnswer.{KeyedAnswer}
 use Rattle.held_transfers.specs.declared.answering.KeyedAnswer.TheVariants as answer
 use Rattle.held_transfers.specs.Answering.{AnswersWithKeys}
-use Rattle.keyed_frames.specs.declared.frames.Frame.{Frame}
 use Rattle.keyed_frames.specs.Sending.{IsSentWhole}
 
 -- ---- the answer to a message
@@ -72,8 +71,3 @@ pub record TakesFrames (access : TransferAccess) (zs : List Zone) (mode : Mode) 
   pub stand : FramesThen mode octets frames left
   pub answered : AnswerFrames access zs frames text
   pub appended : Appends held_before held_after text
-
--- ---- as the program keeps it
-
-abbrev pub framed_of : Frame → Framed
-framed_of f = record { transport = f.transport; message = f.message.now }

@@ -3,7 +3,6 @@
 #![tactic(auto)]
 
 mod clock;
-mod frames;
 mod sending;
 mod serving;
 

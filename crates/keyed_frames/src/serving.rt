@@ -1,23 +1,19 @@
 //! Frames answered by keys over any reader and writer (RFC 1035 section 4.2.2, RFC 7766).
 ghost use Rattle.std.specs.Prelude.{◌≡◌, ◌<◌, None, length, IfOk, OnErr, OnOk};
 ghost use Rattle.std.specs.Io.KnownBytes.{Appends};
-ghost use Rattle.zone_server.specs.Frames.{frame_of};
+ghost use Rattle.zone_server.specs.Frames.{frame_of, framed_of};
 ghost use Rattle.zone_database.specs.Databases.{zones_in};
-ghost use Rattle.keyed_frames.specs.Serving.{framed_of, AnswersByKeys, IsPlainAnswer, IsWrittenFor, Serves, TakesFrames, Writes};
+ghost use Rattle.keyed_frames.specs.Serving.{AnswersByKeys, IsPlainAnswer, IsWrittenFor, Serves, TakesFrames, Writes};
 ghost use Rattle.keyed_frames.specs.Stopping.{BeginsByKeys, BeginsFor, BreaksOff, Stops, StopsWithin};
 
 use crate::clock::Clock;
-use crate::frames::{Frame, frame_of};
 use crate::sending::{send_zone, write_framed};
 use held_transfers::{KeyedAnswer, TransferAccess, answer_with_keys};
 use input_reads::read_some;
 use std::alloc::Global;
 use std::io::{ErrorKind, Read, Write};
 use zone_database::ZoneDatabase;
-use zone_server::{Mode, Stop};
-
-/// How many octets are read at once.
-const CHUNK: usize = 65_536;
+use zone_server::{Frame, Mode, READ_OCTETS, Stop, frame_of};
 
 /// Answers the frames of an input from the zones of a database, by keys, up to the end of the input, each at the moment that the clock tells. A
 /// message without an answer has no frame in the output, and a last frame that isn't complete is ignored.
@@ -45,7 +41,7 @@ pub fn serve_keyed_frames<C: Clock, R: Read, W: Write>(
         (R.remaining input.old) (R.remaining input.new)
         (W.contents output.old) (W.contents output.new)) }
 {
-    let mut chunk = vec![in alloc; 0u8; CHUNK]?;
+    let mut chunk = vec![in alloc; 0u8; READ_OCTETS]?;
     serve_in_chunks(
         alloc,
         database,

@@ -53,6 +53,8 @@ names: copy key: NAME TYPE
 records: type: TEXT
 records: types: TYPE TYPE
 records: kind of: TYPE
+records: newer: NUMBER NUMBER
+records: serial of: RECORD
 records: class: NUMBER
 records: code: NUMBER
 records: record: RECORD

@@ -6,7 +6,7 @@ use library_rows_arguments::Arguments;
 use line_text::{DataText, HexText, RecordText};
 use zone_proto::{
     DNSClass, NxProofKind, OtherData, ProtoError, Query, RData, Record, RecordType, ResponseCode,
-    Seq, is_derived, is_single,
+    Seq, first_serial, is_derived, is_newer, is_single, soa_serial,
 };
 
 /// Makes a call on types, data and records.
@@ -106,6 +106,11 @@ fn make_type_call(out: &mut Answer, verb: &str, arguments: &mut Arguments<'_>) {
             out.order(arguments.take_type().cmp(&second));
         }
         "kind of" => write_kind(out, arguments.take_type()),
+        "newer" => {
+            let than = arguments.take_long();
+            out.hold(is_newer(arguments.take_long(), than));
+        }
+        "serial of" => write_serials(out, arguments.take_record()),
         "class" => out.value(DNSClass(arguments.take_short())),
         "question" => write_question(out, arguments.take_query()),
         _ => out.value(code_of(arguments.take_short())),
@@ -135,6 +140,22 @@ fn write_kind(out: &mut Answer, record_type: RecordType) {
     out.hold(is_single(record_type));
     out.say(" ");
     out.hold(is_derived(record_type));
+}
+
+/// Writes the serial of the data of a record, and that of the first of records of which this is the only one.
+fn write_serials(out: &mut Answer, record: Record) {
+    let records = [record];
+    write_serial(out, soa_serial(&records[0].rdata));
+    out.say(" ");
+    write_serial(out, first_serial(&records));
+    drop(records);
+}
+
+fn write_serial(out: &mut Answer, serial: Option<u32>) {
+    match serial {
+        Some(serial) => out.put(&serial),
+        None => out.say("none"),
+    }
 }
 
 /// The response code of a number.

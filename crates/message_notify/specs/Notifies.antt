@@ -1,8 +1,7 @@
 -- What messages say as NOTIFY messages and their responses (RFC 1996 section 3)
 use Rattle.std.specs.Prelude.{ℕ, ◌==◌, ◌&&◌, not, Bool, List, [], ◌∷◌, Option, Some, None, if◌then◌else◌}
-use Rattle.zone_proto.specs.declared.rdata.RData.{RData}
-use Rattle.zone_proto.specs.declared.rdata.RData.TheVariants as data_of
 use Rattle.zone_proto.specs.declared.record.Record.{Record}
+use Rattle.zone_proto.specs.Sets.{first_serial}
 use Rattle.message_reading.specs.declared.header.Header.{Header}
 use Rattle.message_reading.specs.declared.question.Question.{Question}
 use Rattle.message_reading.specs.Headers.{header_of}
@@ -18,19 +17,10 @@ is_notify h = not h.is_response && (h.opcode == 4)
 abbrev pub asks_for_zone : Question → Bool
 asks_for_zone q = (q.query_type.0 == 6) && (q.query_class.0 == 1)
 
-abbrev pub serial_in : RData → Option ℕ
-serial_in (data_of.SOA soa) = Some soa.serial
-serial_in _ = None
-
--- the serial of the SOA record that comes first, if one does: a hint (section 3.7)
-abbrev pub serial_of : List Record → Option ℕ
-serial_of [] = None
-serial_of (r ∷ rs) = serial_in r.rdata
-
--- a NOTIFY has one question
+-- a NOTIFY has one question; the serial of the SOA record that comes first, if one does, is a hint (section 3.7)
 abbrev pub notify_by : ℕ → List Question → List Record → Option Notify
 notify_by id (q ∷ []) answers =
-    if asks_for_zone q then Some (record { id = id; origin = q.name; serial = serial_of answers }) else None
+    if asks_for_zone q then Some (record { id = id; origin = q.name; serial = first_serial answers }) else None
 notify_by id _ answers = None
 
 abbrev pub notify_in : Parts → Option Notify

@@ -1,12 +1,12 @@
 //! NOTIFY messages and their responses, read.
 ghost use Rattle.std.specs.Prelude.{◌≡◌, IfOk};
 ghost use Rattle.message_reading.specs.Messages.{message_of, parts_of};
-ghost use Rattle.message_notify.specs.Notifies.{asks_for_zone, is_notify, notify_in, notify_of, response_of, serial_of};
+ghost use Rattle.message_notify.specs.Notifies.{asks_for_zone, is_notify, notify_in, notify_of, response_of};
 
 use crate::notify::{Notify, NotifyResponse};
 use message_reading::{Header, Message, MessageError, Question, read_header, read_message};
 use std::alloc::Global;
-use zone_proto::{ProtoError, RData, Record};
+use zone_proto::{ProtoError, first_serial};
 
 /// The NOTIFY that a message is (RFC 1996 section 3): no response, of opcode 4, with one question, for the SOA record of a zone of class IN.
 /// None where it is another message, or none at all. Refused for want of memory alone.
@@ -35,7 +35,7 @@ fn notify_in(message: &Message) -> Result<Option<Notify>, ProtoError>
             Ok(Some(Notify {
                 id: message.header.id,
                 origin: question.name.clone()?,
-                serial: serial_of(message.answers.as_slice()),
+                serial: first_serial(message.answers.as_slice()),
             }))
         }
         _ => Ok(None),
@@ -54,19 +54,6 @@ fn asks_for_zone(question: &Question) -> bool
     ensures { result ≡ asks_for_zone question.now }
 {
     question.query_type.0 == 6 && question.query_class.0 == 1
-}
-
-/// The serial of the SOA record that comes first, if one does.
-fn serial_of(answers: &[Record]) -> Option<u32>
-    ensures { result ≡ serial_of answers.now }
-{
-    match answers {
-        [first, ..] => match &first.rdata {
-            RData::SOA(soa) => Some(soa.serial),
-            _ => None,
-        },
-        [] => None,
-    }
 }
 
 /// The response to a NOTIFY that a message is (RFC 1996 section 3.2): a response of opcode 4. What follows its header isn't looked at. Takes

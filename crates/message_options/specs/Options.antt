@@ -1,5 +1,6 @@
 -- Options of EDNS (RFC 6891 section 6.1.2)
 use Rattle.std.specs.Prelude.{ℕ, zero, suc, ◌+◌, ◌-◌, ◌/◌, ◌%◌, ◌==◌, ◌&&◌, Bool, false, List, [], ◌∷◌, ◌++◌, length, take, nat_lt, slice_index, Option, Some, None, if◌then◌else◌}
+use Rattle.zone_proto.specs.Types.{OPT}
 use Rattle.message_reading.specs.declared.record_frame.RecordFrame.{RecordFrame}
 use Rattle.message_reading.specs.Octets.{◌>>=◌, short_of, octets_of}
 use Rattle.message_reading.specs.Headers.{header_of}
@@ -11,7 +12,7 @@ use Rattle.message_reading.specs.Unread.{behind_questions, record_frame_of}
 unfoldable pub opt_within : ℕ → List ℕ → Option (RecordFrame × List ℕ)
 opt_within zero octets = None
 opt_within (suc n) octets =
-    record_frame_of octets >>= λ r. if r.0.record_type == 41 then Some (r.0, r.1) else opt_within n r.2
+    record_frame_of octets >>= λ r. if r.0.record_type == OPT then Some (r.0, r.1) else opt_within n r.2
 
 -- the OPT record of a message: there is one at most (RFC 6891 section 6.1.1)
 unfoldable pub opt_of : List ℕ → Option (RecordFrame × List ℕ)

@@ -5,9 +5,7 @@ ghost use Rattle.message_options.specs.Options.{opt_of, opt_within, option_of, o
 use message_reading::{
     RecordFrame, behind_questions, octets_of, read_header, record_frame_of, short_of,
 };
-
-/// The type of an OPT record (RFC 6891 section 6.1.1).
-const OPT: u16 = 41;
+use zone_proto::RecordType;
 
 /// How many options a query has at most; with more it is malformed.
 const MOST_OPTIONS: usize = 64;
@@ -33,7 +31,7 @@ fn opt_within(count: u32, records: &[u8]) -> Option<(RecordFrame, &[u8])>
     let mut rest = records;
     for _ in 0..count {
         let (frame, data, next) = record_frame_of(rest)?;
-        if frame.record_type == OPT {
+        if frame.record_type == RecordType::OPT.0 {
             return Some((frame, data));
         }
         rest = next;

@@ -1,5 +1,6 @@
 -- A query as a server reads it, or the first cause for which it is refused
 use Rattle.std.specs.Prelude.{◌≡◌, ℕ, zero, suc, ◌/◌, ◌%◌, ◌==◌, ◌&&◌, ◌||◌, Bool, true, false, List, [], ◌∷◌, Option, Some, None, Result, Ok, Err, nat_le, nat_lt, min, max, if◌then◌else◌}
+use Rattle.zone_proto.specs.Types.{IXFR, OPT}
 use Rattle.message_reading.specs.declared.header.Header.{Header}
 use Rattle.message_reading.specs.declared.question.Question.{Question}
 use Rattle.message_reading.specs.declared.query.Query.{Query}
@@ -43,7 +44,7 @@ if_only (Some e) r octets = None
 
 -- what EDNS says so far, and one more record with these data
 abbrev pub with_record : Option Extension → RecordFrame → List ℕ → Option (Option Extension)
-with_record found r octets = if r.record_type == 41 then if_only found r octets else Some found
+with_record found r octets = if r.record_type == OPT then if_only found r octets else Some found
 
 -- so many additional records, and what EDNS says with them
 unfoldable pub additionals_of : ℕ → Option Extension → List ℕ → Option (Option Extension × List ℕ)
@@ -57,11 +58,11 @@ additionals_of (suc n) found octets =
 unfoldable pub behind_authorities : ℕ → List ℕ → Option (List ℕ)
 behind_authorities zero octets = Some octets
 behind_authorities (suc n) octets =
-    record_frame_of octets >>= λ r. if r.0.record_type == 41 then None else behind_authorities n r.2
+    record_frame_of octets >>= λ r. if r.0.record_type == OPT then None else behind_authorities n r.2
 
 -- the query for a zone's changes, IXFR, tells the serial that the sender has in the authority section (RFC 1995 section 3)
 abbrev pub may_have_authorities : Header → Question → Bool
-may_have_authorities header question = header.authorities == 0 || question.query_type.0 == 251
+may_have_authorities header question = header.authorities == 0 || question.query_type.0 == IXFR
 
 -- a query behind its question: nothing follows its last record
 unfoldable pub behind_question : Header → Question → List ℕ → Option Query

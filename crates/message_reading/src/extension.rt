@@ -5,9 +5,7 @@ ghost use Rattle.message_reading.specs.Queries.{additionals_of, behind_authoriti
 use crate::options::are_options;
 use crate::query::Extension;
 use crate::record_frame::{RecordFrame, record_frame_of};
-
-/// The type of an OPT record (RFC 6891 section 6.1.1).
-const OPT: u16 = 41;
+use zone_proto::RecordType;
 
 /// What an OPT record says.
 fn extension_of(frame: RecordFrame) -> Extension
@@ -39,7 +37,7 @@ fn with_record(
 ) -> Option<Option<Extension>>
     ensures { result ≡ with_record found frame octets.now }
 {
-    if frame.record_type == OPT {
+    if frame.record_type == RecordType::OPT.0 {
         if_only(found, frame, octets)
     } else {
         Some(found)
@@ -67,7 +65,7 @@ pub(crate) fn behind_authorities(count: u16, octets: &[u8]) -> Option<&[u8]>
     let mut rest = octets;
     for _ in 0..count {
         let (frame, _, next) = record_frame_of(rest)?;
-        if frame.record_type == OPT {
+        if frame.record_type == RecordType::OPT.0 {
             return None;
         }
         rest = next;

@@ -1,5 +1,8 @@
 //! The header of a message.
 
+/// How many octets a header has (RFC 1035 section 4.1.1).
+pub const HEADER_OCTETS: usize = 12;
+
 /// The header of a message (RFC 1035 section 4.1.1): its identifier, its flags and how many entries each section has.
 #[derive(Clone, Copy, PartialEq, Eq, Debug)]
 pub struct Header {

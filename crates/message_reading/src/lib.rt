@@ -32,7 +32,7 @@ mod unread;
 pub use data::{data_of, plain_data_of};
 pub use error::{MessageError, ReadError};
 pub use fields::{Fields, fields_of};
-pub use header::Header;
+pub use header::{HEADER_OCTETS, Header};
 pub use header_reader::read_header;
 pub use message::Message;
 pub use message_reader::{read_first_authority, read_message};

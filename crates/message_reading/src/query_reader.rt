@@ -9,10 +9,7 @@ use crate::header_reader::read_header;
 use crate::query::Query;
 use crate::question::{Question, question_of};
 use std::alloc::Global;
-use zone_proto::ProtoError;
-
-/// The type of a query for a zone's changes, IXFR (RFC 1995 section 3).
-const IXFR: u16 = 251;
+use zone_proto::{ProtoError, RecordType};
 
 /// The most records that a section of a query may have.
 const MOST_RECORDS: u16 = 4;
@@ -91,7 +88,7 @@ fn has_few(header: Header) -> bool
 fn may_have_authorities(header: Header, question: &Question) -> bool
     ensures { result ≡ may_have_authorities header question.now }
 {
-    header.authorities == 0 || question.query_type.0 == IXFR
+    header.authorities == 0 || question.query_type == RecordType::IXFR
 }
 
 /// The query of a header and a question, and of what follows them.

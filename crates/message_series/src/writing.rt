@@ -13,9 +13,6 @@ use message_writing::{Group, Response, WriteError, write_front};
 use std::alloc::{AllocError, Global};
 use zone_proto::{DNSClass, Name, ProtoError, RecordType};
 
-/// The type of a query for what changed of a zone (RFC 1995 section 3).
-const IXFR: RecordType = RecordType(251);
-
 /// How many octets a message may have.
 const LIMIT: u16 = 65535;
 
@@ -186,7 +183,7 @@ fn question_about(origin: &Name) -> Result<Query, ProtoError>
         },
         question: Question {
             name: origin.clone()?,
-            query_type: IXFR,
+            query_type: RecordType::IXFR,
             query_class: DNSClass::IN,
         },
         extension: None,

@@ -28,6 +28,6 @@ pub use message_hmac::{Algorithm, Secret};
 pub use place::{Place, place_of};
 pub use requesting::{SignedRequest, sign_request};
 pub use response_checker::{CheckedResponse, ResponseChecker, ResponseFault};
-pub use signing::{ResponseSigner, refuse, tsig_size};
+pub use signing::{FUDGE, ResponseSigner, refuse, tsig_size};
 pub use tsig::{Tsig, tsig_at};
 pub use verdict::TsigError;

@@ -17,8 +17,8 @@ use std::alloc::Global;
 use std::marker::Model;
 use zone_proto::{LowerName, Name, ProtoError, Seq};
 
-/// How far apart clocks may be, in seconds (RFC 8945 section 10).
-const FUDGE: u16 = 300;
+/// How far apart the clocks of both sides may be, in seconds (RFC 8945 section 10).
+pub const FUDGE: u16 = 300;
 
 /// NOTAUTH (RFC 8945 section 3).
 const NOT_AUTHENTIC: u8 = 9;

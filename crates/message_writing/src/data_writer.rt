@@ -6,6 +6,7 @@ ghost use Rattle.message_writing.specs.Checks.{HaveTypeNumbers};
 ghost use Rattle.message_writing.specs.DataText.{AreCuts, AreShort, AreTimers, IsSound, IsWritable, data_text, dnskey_text, fixed_text, long_text, name_text, rrsig_text, short_text, srv_text, timers_text};
 
 use crate::denial_writer::{push_nsec, push_nsec3, push_nsec3param};
+use crate::fingerprints::Fingerprint;
 use crate::hints::Hint;
 use crate::name_writer::{Cut, cut_of, push_cut, push_wire};
 use crate::numbers::{push_long, push_short};
@@ -23,6 +24,7 @@ pub(crate) struct DataCuts {
 const WHOLE: Cut = Cut {
     labels: 0,
     pointer: None,
+    fingerprint: Fingerprint::OF_ROOT,
 };
 
 /// Where the names of data are cut that may have pointers: those in the types of RFC 1035, and in no other (RFC 3597 section 4).

@@ -18,9 +18,12 @@ pub(crate) struct Fingerprint {
 }
 
 impl Fingerprint {
+    /// The fingerprint of the root.
+    pub(crate) const OF_ROOT: Fingerprint = Fingerprint { sum: 0, scale: 1 };
+
     /// The fingerprint of a name.
     pub(crate) fn of(name: Labels<'_>) -> Fingerprint {
-        let mut made = Fingerprint { sum: 0, scale: 1 };
+        let mut made = Fingerprint::OF_ROOT;
         for label in name {
             made = Fingerprint {
                 sum: made.sum.wrapping_mul(STEP).wrapping_add(part_of(label)),

@@ -28,6 +28,8 @@ pub(crate) struct Hints {
     hints: SmallVec<Hint, 16>,
     /// Whether those of the question are kept.
     has_question: bool,
+    /// Where the owner of the record stands that was written last; 0 if that isn't known.
+    last_owner: u16,
 }
 
 impl Hints {
@@ -36,7 +38,13 @@ impl Hints {
         Hints {
             hints: SmallVec::new(alloc),
             has_question: false,
+            last_owner: 0,
         }
+    }
+
+    /// Where the owner of the record may stand that was written last: mostly the next record has the same.
+    pub(crate) fn last_owner(&self) -> u16 {
+        self.last_owner
     }
 
     /// The hints.
@@ -54,19 +62,25 @@ impl Hints {
         let whole = Cut {
             labels: question.name.num_labels(),
             pointer: None,
+            fingerprint: Fingerprint::of(question.name.labels()),
         };
         self.note(AFTER_HEADER, whole, question.name.labels())
     }
 
-    /// Keeps the offsets of the labels of an owner that was written at an offset as it is cut. Where there is no room, the last one
-    /// gives way to that of its first label: the next record often has the same owner.
+    /// Keeps where an owner stands that was written at an offset as it is cut, since the next record often has the same, and the
+    /// offsets of its labels. Where there is no room for these, the last one gives way to that of its first label.
     pub(crate) fn note_owner(
         &mut self,
         at: usize,
         cut: Cut,
         owner: Labels<'_>,
     ) -> Result<(), AllocError> {
-        if cut.labels > 0 && self.hints.len() >= MAX_OFFSETS {
+        if cut.labels == 0 {
+            self.last_owner = cut.pointer.unwrap_or(0);
+            return Ok(());
+        }
+        self.last_owner = if at < 16384 { at as u16 } else { 0 };
+        if self.hints.len() >= MAX_OFFSETS {
             self.hints.pop();
         }
         self.note(at, cut, owner)
@@ -77,7 +91,7 @@ impl Hints {
         if cut.labels == 0 {
             return Ok(());
         }
-        let mut fingerprint = Fingerprint::of(name.clone());
+        let mut fingerprint = cut.fingerprint;
         let mut left = name;
         let mut here = at;
         for _ in 0..cut.labels {

@@ -19,15 +19,18 @@ pub(crate) fn find(
 {
     for hint in hints {
         let offset = hint.offset;
-        if hint.fingerprint == fingerprint
-            && offset >= 12
-            && offset < 16384
-            && stands_at(out, usize::from(offset), labels.clone())
-        {
+        if hint.fingerprint == fingerprint && is_known(out, offset, labels.clone()) {
             return Some(offset);
         }
     }
     None
+}
+
+/// Whether a pointer may lead to an offset, at which exactly these labels stand.
+pub(crate) fn is_known(out: &[u8], offset: u16, labels: Labels<'_>) -> bool
+    ensures { IsTrue result → IsKnown out.now offset labels.entry }
+{
+    offset >= 12 && offset < 16384 && stands_at(out, usize::from(offset), labels)
 }
 
 /// Whether the name at this offset has exactly these labels, their case included; the pointers on the way are followed.

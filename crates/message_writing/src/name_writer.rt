@@ -15,6 +15,8 @@ use zone_proto::Labels;
 pub(crate) struct Cut {
     pub(crate) labels: usize,
     pub(crate) pointer: Option<u16>,
+    /// The fingerprint of the whole name, where labels of it are written.
+    pub(crate) fingerprint: Fingerprint,
 }
 
 /// Where a name is cut: before its longest end that is at one of the hinted offsets. However many labels it has, few ends are
@@ -23,7 +25,8 @@ pub(crate) fn cut_of(out: &[u8], hints: &[Hint], name: Labels<'_>) -> Cut
     requires { IsName name }
     ensures { IsCut out.now result.labels result.pointer name.entry }
 {
-    let mut fingerprint = Fingerprint::of(name.clone());
+    let whole = Fingerprint::of(name.clone());
+    let mut fingerprint = whole;
     let mut left = name;
     let mut labels = 0usize;
     loop {
@@ -32,12 +35,14 @@ pub(crate) fn cut_of(out: &[u8], hints: &[Hint], name: Labels<'_>) -> Cut
             return Cut {
                 labels,
                 pointer: None,
+                fingerprint: whole,
             };
         };
         if let Some(offset) = find(out, hints, fingerprint, &here) {
             return Cut {
                 labels,
                 pointer: Some(offset),
+                fingerprint: whole,
             };
         }
         fingerprint = fingerprint.without(first);

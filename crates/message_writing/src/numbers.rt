@@ -37,9 +37,14 @@ pub(crate) fn push_pointer(out: &mut Vec<u8>, offset: u16) -> Result<(), AllocEr
 pub fn push_long(out: &mut Vec<u8>, number: u32) -> Result<(), AllocError>
     ensures { OnOk result (out.new.items ≡ out.old.items ++ long_text number) }
 {
-    push_short(out, (number / 65536) as u16)?;
-    push_short(out, (number % 65536) as u16)?;
-    Ok(())
+    let high = number / 65536;
+    let low = number % 65536;
+    out.extend_from_slice(&[
+        (high / 256) as u8,
+        (high % 256) as u8,
+        (low / 256) as u8,
+        (low % 256) as u8,
+    ])
 }
 
 /// Puts two octets in place of others.

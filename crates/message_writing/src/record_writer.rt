@@ -1,5 +1,5 @@
 //! Records written into a message (RFC 1035 section 4.1.3).
-ghost use Rattle.std.specs.Prelude.{◌≡◌, ◌++◌, true, OnOk, IfErr, IfOk, IsSomeAnd};
+ghost use Rattle.std.specs.Prelude.{◌≡◌, ◌++◌, true, OnOk, IfErr, IfOk, IsSomeAnd, Some};
 ghost use Rattle.zone_proto.specs.Data.{type_of};
 ghost use Rattle.message_writing.specs.Continuing.{Appends};
 ghost use Rattle.message_writing.specs.DataText.{AreCuts, long_text, short_text};
@@ -10,8 +10,10 @@ ghost use Rattle.message_writing.specs.StrictReading.{strict_record_of};
 
 use crate::data_writer::{DataCuts, data_cuts, push_data};
 use crate::error::WriteError;
+use crate::fingerprints::Fingerprint;
 use crate::group_writer::Setting;
 use crate::hints::{AFTER_HEADER, Hints};
+use crate::known_names::is_known;
 use crate::name_writer::{Cut, cut_of, push_cut};
 use crate::numbers::{push_short, put_short};
 use crate::writable::is_writable;
@@ -61,13 +63,26 @@ fn owner_cut(
     ensures { IfOk result (λ cut. IsCut out.now cut.labels cut.pointer owner.now) }
 {
     if is_asked(setting, owner) {
-        return Ok(Cut {
-            labels: 0,
-            pointer: Some(AFTER_HEADER as u16),
-        });
+        return Ok(pointer_to(AFTER_HEADER as u16));
+    }
+    let last = hints.last_owner();
+    if is_known(out, last, owner.labels()) {
+        return Ok(pointer_to(last));
     }
     hints.note_question(setting.question)?;
     Ok(cut_of(out, hints.as_slice(), owner.labels()))
+}
+
+/// A pointer in place of a whole name.
+fn pointer_to(offset: u16) -> Cut
+    ensures labels { result.labels ≡ 0 }
+    ensures pointer { result.pointer ≡ Some offset }
+{
+    Cut {
+        labels: 0,
+        pointer: Some(offset),
+        fingerprint: Fingerprint::OF_ROOT,
+    }
 }
 
 /// Whether a name is the one that is asked for, in lower case as that is. If not, it may be so nevertheless.

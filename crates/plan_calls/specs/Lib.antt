@@ -1,4 +1,3 @@
-pub mod Holding
 pub mod Signings
 pub mod Outcomes
 pub mod Beginning

@@ -9,7 +9,7 @@ use crate::finishing::install;
 use crate::handle::PlanHandle;
 use crate::outcome::PlanOutcome;
 use crate::signing::Signing;
-use call_handles::write_front;
+use call_handles::{Handle, write_front};
 use held_plans::HeldPlan;
 use std::alloc::Global;
 use std::mem;

@@ -5,12 +5,9 @@ ghost use Rattle.message_writing.specs.Responses.{IsWritten};
 ghost use Rattle.message_writing.specs.declared.response.Response.{Response};
 ghost use Rattle.ready_answers.specs.Again.{IsAskedAgain};
 
-use message_reading::{Header, Query, read_header};
+use message_reading::{HEADER_OCTETS, Header, Query, read_header};
 use message_writing::push_short;
 use std::alloc::AllocError;
-
-/// How many octets a header has (RFC 1035 section 4.1.1).
-const HEADER: usize = 12;
 
 /// Puts a response that was written before in place of the octets of `out`, with the identifier and RD of another query
 /// (RFC 1035 section 4.1.1). Whether it had a header; if not, `out` is as it was.
@@ -24,7 +21,7 @@ pub fn put_again(out: &mut Vec<u8>, ready: &[u8], query: &Query) -> Result<bool,
         → IsWritten limit after out.new.items) }
     ensures same { IfOk result (λ had. had ≡ false → out.new.items ≡ out.old.items) }
 {
-    if ready.len() < HEADER {
+    if ready.len() < HEADER_OCTETS {
         return Ok(false);
     }
     let Some((header, _)) = read_header(ready) else {
@@ -32,7 +29,7 @@ pub fn put_again(out: &mut Vec<u8>, ready: &[u8], query: &Query) -> Result<bool,
     };
     out.clear();
     push_header(out, header, query)?;
-    out.extend_from_slice(&ready[HEADER..])?;
+    out.extend_from_slice(&ready[HEADER_OCTETS..])?;
     Ok(true)
 }
 

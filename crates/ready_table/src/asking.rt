@@ -6,9 +6,8 @@ ghost use Rattle.zone_server.specs.Limits.{limit_for};
 ghost use Rattle.ready_table.specs.Ready.{AreReady, IsInside, IsReady};
 
 use crate::limits::said_by;
-use crate::questions::HEADER;
 use crate::table::ReadyTable;
-use message_reading::{Query, question_of, read_query};
+use message_reading::{HEADER_OCTETS, Query, question_of, read_query};
 use std::alloc::{AllocError, Global};
 use zone_proto::{LowerName, RecordType};
 use zone_server::{DATAGRAM_SIZE, ServedZones, Transport, answer, limit_for};
@@ -80,15 +79,15 @@ pub(crate) fn keep(
         → IsReady z (limit_for (Udp 1232) query.now.extension) query.now ready.now
         → AreReady z table.old → AreReady z table.new) }
 {
-    if ready.len() < HEADER {
+    if ready.len() < HEADER_OCTETS {
         return Ok(());
     }
-    let Ok(found) = question_of(alloc, ready, &ready[HEADER..]) else {
+    let Ok(found) = question_of(alloc, ready, &ready[HEADER_OCTETS..]) else {
         return Err(AllocError);
     };
     let Some((_, behind)) = found else {
         return Ok(());
     };
-    let count = (ready.len() - HEADER).saturating_sub(behind.len());
+    let count = (ready.len() - HEADER_OCTETS).saturating_sub(behind.len());
     table.keep(ready, count, limit_for(WAY, query), said_by(query))
 }

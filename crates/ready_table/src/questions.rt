@@ -1,11 +1,9 @@
 //! Queries as they come, for what is asked at loading, and where a table is searched for one.
 
+use message_reading::HEADER_OCTETS;
 use message_writing::push_short;
 use std::alloc::AllocError;
 use zone_proto::{DNSClass, LowerName, RecordType};
-
-/// How many octets a header has (RFC 1035 section 4.1.1).
-pub(crate) const HEADER: usize = 12;
 
 /// What each octet is multiplied by (FNV-1a).
 const FACTOR: u64 = 0x0000_0100_0000_01b3;
@@ -17,7 +15,7 @@ const BASIS: u64 = 0xcbf2_9ce4_8422_2325;
 /// Nothing depends on it but how soon an answer is found.
 pub(crate) fn hint_of(message: &[u8], query_type: RecordType, dnssec_ok: Option<bool>) -> usize {
     let mut sum = BASIS;
-    for octet in message.get(HEADER..).unwrap_or(&[]) {
+    for octet in message.get(HEADER_OCTETS..).unwrap_or(&[]) {
         if *octet == 0 {
             break;
         }

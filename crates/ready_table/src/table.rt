@@ -8,8 +8,8 @@ ghost use Rattle.ready_answers.specs.Again.{said_by};
 ghost use Rattle.ready_table.specs.Ready.{octets_at, question_at, AreReady, IsFound, IsQuestionText, IsReady, IsReadyAt};
 
 use crate::limits::{is_same, said_by};
-use crate::questions::{HEADER, hint_of};
-use message_reading::Query;
+use crate::questions::hint_of;
+use message_reading::{HEADER_OCTETS, Query};
 use ready_answers::put_again;
 use std::alloc::{AllocError, Global};
 use zone_proto::RecordType;
@@ -260,16 +260,16 @@ fn has_question(ready: &[u8], message: &[u8], count: u16) -> bool
     ensures same { IsTrue result
         → take count (drop 12 ready.now) ≡ take count (drop 12 message.now) }
 {
-    let end = HEADER + usize::from(count);
+    let end = HEADER_OCTETS + usize::from(count);
     if ready.len() < end || message.len() < end {
         return false;
     }
-    ready[HEADER..end] == message[HEADER..end]
+    ready[HEADER_OCTETS..end] == message[HEADER_OCTETS..end]
 }
 
 /// The type that the question of so many octets of a response asks for (RFC 1035 section 4.1.2).
 fn type_of(ready: &[u8], count: u16) -> RecordType {
-    let at = (HEADER + usize::from(count)).saturating_sub(4);
+    let at = (HEADER_OCTETS + usize::from(count)).saturating_sub(4);
     match (ready.get(at), ready.get(at + 1)) {
         (Some(high), Some(low)) => RecordType(u16::from(*high) * 256 + u16::from(*low)),
         _ => RecordType(0),

@@ -2,7 +2,8 @@
 
 use line_text::{TextError, Words, read_u32};
 use std::alloc::Global;
-use zone_secondary::{Due, Poll, Question, Secondary, Version, is_newer};
+use zone_proto::is_newer;
+use zone_secondary::{Due, Poll, Question, Secondary, Version};
 
 /// Which question is due after each event.
 pub fn secondary_answer(alloc: Global, mut words: Words<'_>) -> Result<String, TextError> {

@@ -5,13 +5,10 @@ ghost use Rattle.signed_transfers.specs.SignedTransfers.{took_plain, took_signed
 ghost use Rattle.secondaryd.specs.Channels.{behind, channel_of, closed, is_open, opened, sent, whole, IsPlainStep, IsSignedStep, IsStep};
 
 use crate::events::NoMemory;
-use message_tsig::{Key, sign_request};
+use message_tsig::{FUDGE, Key, sign_request};
 use signed_transfers::{SignedFault, SignedTransfer};
 use std::alloc::Global;
 use transfer_reading::{AnswerFault, Asked, Stage, Transfer, write_query};
-
-/// How many seconds the clock of the primary may be before or behind ours (RFC 8945 section 10).
-const FUDGE: u16 = 300;
 
 /// How a primary is spoken to, with the answer that is waited for, if one is.
 #[derive(Drop)]

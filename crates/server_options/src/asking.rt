@@ -6,11 +6,8 @@ ghost use Rattle.server_options.specs.Asking.{reserved_for_nsid, state_by, state
 use crate::arrival::Arrival;
 use message_cookies::{CheckedCookie, CookieSecrets, check_cookie};
 use message_options::{COOKIE, NSID, option_value};
-use message_reading::octets_of;
+use message_reading::{HEADER_OCTETS, octets_of};
 use zone_server::{DATAGRAM_SIZE, Transport};
-
-/// How many octets a header has (RFC 1035 section 4.1.1).
-const HEADER: usize = 12;
 
 /// How many octets the option of a cookie has.
 const COOKIE_OCTETS: usize = 28;
@@ -86,7 +83,7 @@ pub(crate) fn comes_again(required: bool, transport: Transport, state: CookieSta
 pub(crate) fn header_alone(message: &[u8]) -> &[u8]
     ensures { result.now ≡ header_alone message.now }
 {
-    match octets_of(HEADER, message) {
+    match octets_of(HEADER_OCTETS, message) {
         None => message,
         Some((header, _)) => header,
     }

@@ -3,7 +3,7 @@ use Rattle.std.specs.Prelude.{◌≡◌, ℕ, Bool, false, if◌then◌else◌, 
 use Rattle.zone_proto.specs.Names.{Name}
 use Rattle.zone_proto.specs.Sets.{first_serial}
 use Rattle.zone_map.specs.Zones.{Sets}
-use Rattle.zone_secondary.specs.Serials.{is_newer}
+use Rattle.zone_proto.specs.Serials.{is_newer}
 use Rattle.shown_zones.specs.Steps.{IsStepIfAny}
 use Rattle.shown_zones.specs.declared.step.ZoneStep.{ZoneStep}
 use Rattle.kept_steps.specs.Kept.{with_step, Kept}

@@ -7,8 +7,7 @@ use kept_steps::KeptSteps;
 use shown_zones::{ZoneStep, step_between};
 use std::alloc::{AllocError, Global};
 use zone_map::RecordMap;
-use zone_proto::LowerName;
-use zone_secondary::is_newer;
+use zone_proto::{LowerName, is_newer};
 
 /// Puts the step from one version of a zone to the next one behind the steps that are kept, which lead to the first. Where the second isn't
 /// newer by the serial of its SOA (RFC 1982), or one of the two has no SOA, all are forgotten: no step leads to it. The step takes one pass

@@ -7,6 +7,7 @@ ghost use Rattle.transfer_calls.specs.Accesses.{AllowsHeld, IsAllowed, IsMissing
 use crate::access_handle::AccessHandle;
 use crate::grants::grant_of;
 use crate::outcome::TransferOutcome;
+use call_handles::Handle;
 use held_transfers::{Grant, TransferAccess};
 use key_files::{KeyFileError, KeyFileFault};
 use std::alloc::Global;

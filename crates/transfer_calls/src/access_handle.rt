@@ -1,83 +1,53 @@
 //! What a caller that isn't Rattle keeps of the keys of a server.
-ghost use Rattle.std.specs.Prelude.{◌≡◌, Some, None, Option, MatchOption};
-ghost use Rattle.transfer_calls.specs.AccessHolding.{held_code, owns_held};
+ghost use Rattle.std.specs.Coded.{coded_option};
+ghost use Rattle.std.specs.Prelude.{◌≡◌, Option};
+ghost use Rattle.call_handles.specs.Holding.{owns_held};
 ghost use Rattle.held_transfers.specs.declared.access.TransferAccess.{TransferAccess as Kept};
+ghost use Rattle.held_transfers.specs.contracts.access.TransferAccess.{the_row};
 
-use call_handles::RawBox;
+use call_handles::{Handle, NullableBox};
 use held_transfers::TransferAccess;
 use std::alloc::Global;
 use std::marker::Model;
-use std::{mem, ptr};
 
 /// The keys of a server and who may have its zones behind a pointer, which is null if there is none. In memory it is that pointer alone.
 #[repr(C)]
 pub struct AccessHandle {
     ptr: *mut u8,
     alloc: Global,
-    pub ghost held: { Option Kept } by { held_code },
+    pub ghost held: { Option Kept } by { coded_option the_row.coded },
 }
 
 impl Model for AccessHandle {
-    ghost also_owns = { λ h. owns_held h.alloc h.ptr h.held };
+    ghost also_owns = { λ h. owns_held the_row h.alloc h.ptr h.held };
 }
 
-impl AccessHandle {
-    /// A handle that holds nothing.
-    pub fn empty(alloc: Global) -> AccessHandle
-        ensures { result.held ≡ None }
-    {
-        let ptr = ptr::null_mut();
-        AccessHandle { ptr, alloc }
-    }
+impl Handle for AccessHandle {
+    type Content = TransferAccess;
 
-    /// A handle of the keys of a server.
-    fn full(access: RawBox<TransferAccess, Global>) -> AccessHandle
-        ensures { result.held ≡ Some access.content }
+    ghost held = { λ h. h.held };
+
+    fn from_raw(raw: NullableBox<TransferAccess>) -> AccessHandle
+        ensures { result.held ≡ raw.content }
     {
-        let RawBox { ptr, alloc } = access;
+        let NullableBox { ptr, alloc } = raw;
         let ptr = ptr as *mut u8;
         AccessHandle { ptr, alloc }
     }
 
-    /// What the handle holds.
-    fn content(self) -> Option<RawBox<TransferAccess, Global>>
-        ensures { MatchOption result (self.held ≡ None) (λ raw. self.held ≡ Some raw.content) }
+    fn into_raw(self) -> NullableBox<TransferAccess>
+        ensures { result.content ≡ self.held }
     {
         let AccessHandle { ptr, alloc } = self;
         let ptr = ptr as *mut TransferAccess;
-        if ptr.is_null() {
-            None
-        } else {
-            Some(RawBox { ptr, alloc })
-        }
-    }
-
-    /// Takes the keys out.
-    pub fn take(&mut self, alloc: Global) -> Option<Box<TransferAccess>>
-        ensures taken { MatchOption result (self.old.held ≡ None)
-            (λ access. self.old.held ≡ Some access.value) }
-        ensures left { self.new.held ≡ None }
-    {
-        match mem::replace(self, AccessHandle::empty(alloc)).content() {
-            Some(raw) => Some(raw.whole()),
-            None => None,
-        }
-    }
-
-    /// Puts the keys of a server in place of what is held.
-    pub fn put(&mut self, access: Box<TransferAccess>)
-        ensures { self.new.held ≡ Some access.value }
-    {
-        drop(mem::replace(self, AccessHandle::full(RawBox::apart(access))));
+        NullableBox { ptr, alloc }
     }
 }
 
 /// Gives the memory of the keys back.
 impl Drop for AccessHandle {
     fn drop(self) {
-        if let Some(raw) = self.content() {
-            drop(raw.whole());
-        }
+        drop(self.into_raw().whole());
     }
 }
 

@@ -7,6 +7,7 @@ use crate::access_handle::AccessHandle;
 use crate::outcome::TransferOutcome;
 use crate::transfer_handle::TransferHandle;
 use arrival_calls::ClientMessage;
+use call_handles::Handle;
 use held_steps::HeldAnswer;
 use held_transfers::{HeldTransfer, KeyedAnswer, TransferAccess, answer_with_keys};
 use std::alloc::Global;

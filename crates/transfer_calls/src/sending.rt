@@ -5,6 +5,7 @@ ghost use Rattle.transfer_calls.specs.Transfers.{GivesMessage, HandsOut, IsKeptB
 use crate::beginning::give_response;
 use crate::outcome::TransferOutcome;
 use crate::transfer_handle::TransferHandle;
+use call_handles::Handle;
 use held_steps::HeldAnswer;
 use std::alloc::Global;
 use std::mem;

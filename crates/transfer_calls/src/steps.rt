@@ -8,6 +8,7 @@ use crate::grants::name_of;
 use crate::outcome::TransferOutcome;
 use crate::steps_handle::StepsHandle;
 use crate::transfer_handle::TransferHandle;
+use call_handles::Handle;
 use held_steps::{HeldAnswer, HeldSteps};
 use std::alloc::Global;
 use std::mem;

@@ -20,7 +20,7 @@ mod transfer;
 
 pub use beginning::{Begun, begin};
 pub use grants::is_granted;
-pub use open_transfer::OpenTransfer;
+pub use open_transfer::{OpenTransfer, ROOM};
 pub use opening::{Opened, Request, open};
 pub use place::Place;
 pub use sealing::{Sealing, seal};

@@ -11,7 +11,7 @@ use zone_proto::{RecordSet, ResponseCode};
 use zone_server::{DATAGRAM_SIZE, send_code};
 
 /// How many octets a message has at most before it is signed: 65,535 without the 358 that a TSIG has at most.
-const ROOM: u16 = 65_177;
+pub const ROOM: u16 = 65_177;
 
 /// A zone that is being sent as the response to a query, without the zone.
 #[derive(Drop)]

@@ -10,10 +10,7 @@ use crate::sealing::Sealing;
 use message_reading::{Header, Query, ReadError, read_header, read_query};
 use message_tsig::{Checked, Key, Tsig, TsigError, check_request, refuse};
 use std::alloc::{AllocError, Global};
-use zone_server::{Transport, asks_for_transfer, write_bare_header};
-
-/// FORMERR (RFC 1035 section 4.1.1).
-const MALFORMED: u8 = 1;
+use zone_server::{MALFORMED, Transport, asks_for_transfer, write_bare_header};
 
 /// What a message is found to be.
 #[derive(Drop)]

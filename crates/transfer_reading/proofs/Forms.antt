@@ -5,7 +5,7 @@ use Rattle.std.specs.List.{flat_map}
 use Rattle.std.proofs.lemmas.Bool.{eqb-true}
 use Rattle.zone_proto.specs.Names.{lower, is_at_or_above}
 use Rattle.zone_proto.specs.declared.record.Record.{Record}
-use Rattle.zone_secondary.specs.Serials.{ahead, is_newer}
+use Rattle.zone_proto.specs.Serials.{ahead, is_newer}
 use Rattle.zone_secondary.specs.declared.secondary.Question.{Question}
 use Rattle.zone_secondary.specs.declared.secondary.Question.TheVariants.{Soa, Changes, Zone}
 use Rattle.transfer_reading.specs.Answers.{◌>>=◌}

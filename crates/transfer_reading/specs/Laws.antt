@@ -4,7 +4,7 @@ use Rattle.std.specs.List.{flat_map, AllByRecursion}
 use Rattle.zone_proto.specs.Names.{Name, lower, is_at_or_above}
 use Rattle.zone_proto.specs.Types.{IN}
 use Rattle.zone_proto.specs.declared.record.Record.{Record}
-use Rattle.zone_secondary.specs.Serials.{is_newer}
+use Rattle.zone_proto.specs.Serials.{is_newer}
 use Rattle.message_reading.specs.Messages.{message_of, Parts}
 use Rattle.zone_secondary.specs.declared.secondary.Question.{Question}
 use Rattle.zone_secondary.specs.declared.secondary.Question.TheVariants.{Soa, Changes, Zone}

@@ -6,7 +6,7 @@ use Rattle.zone_proto.specs.Names.{Name, lower, is_at_or_above, same_name}
 use Rattle.zone_proto.specs.Sets.{soa_serial}
 use Rattle.zone_proto.specs.Types.{IN}
 use Rattle.zone_proto.specs.declared.record.Record.{Record}
-use Rattle.zone_secondary.specs.Serials.{is_newer}
+use Rattle.zone_proto.specs.Serials.{is_newer}
 use Rattle.zone_secondary.specs.declared.secondary.Question.{Question}
 use Rattle.zone_secondary.specs.declared.secondary.Question.TheVariants.{Soa, Changes, Zone}
 use Rattle.transfer_reading.specs.Answers.{◌>>=◌}

@@ -22,7 +22,7 @@ pub(crate) fn type_asked(question: Question) -> RecordType
 {
     match question {
         Question::Soa => RecordType::SOA,
-        Question::Changes(_) => RecordType(251),
-        Question::Zone => RecordType(252),
+        Question::Changes(_) => RecordType::IXFR,
+        Question::Zone => RecordType::AXFR,
     }
 }

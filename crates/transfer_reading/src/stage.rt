@@ -6,8 +6,8 @@ ghost use Rattle.zone_proto.specs.Names.{is_at_or_above, lower};
 
 use crate::asked::Asked;
 use crate::fault::AnswerFault;
-use zone_proto::{DNSClass, Name, RData, Record};
-use zone_secondary::{Question, is_newer};
+use zone_proto::{DNSClass, Name, Record, is_newer, soa_serial};
+use zone_secondary::Question;
 
 /// How far an answer has come, record by record (RFC 5936 section 2.2, RFC 1995 section 4).
 #[derive(Clone, Copy, PartialEq, Eq, Debug)]
@@ -79,10 +79,7 @@ pub(crate) fn serial_at(origin: &Name, record: &Record) -> Option<u32>
     if record.name != *origin {
         return None;
     }
-    match &record.rdata {
-        RData::SOA(soa) => Some(soa.serial),
-        _ => None,
-    }
+    soa_serial(&record.rdata)
 }
 
 /// How far an answer has come behind an SOA record of the zone.

@@ -2,7 +2,7 @@
 
 use crate::updates::update_keys;
 use held_transfers::{KeyedAnswer, TransferAccess, answer_with_keys};
-use held_updates::UpdateAccess;
+use held_updates::{UpdateAccess, UpdatedZone};
 use key_files::KeyFileError;
 use line_text::{HexText, TextError, Words, read_hex, read_name};
 use std::alloc::Global;
@@ -20,6 +20,8 @@ pub struct KeyedServer {
     pub updates: UpdateAccess,
     /// Its zones.
     pub zones: ZoneDatabase,
+    /// The update that was planned last, unless it was committed.
+    pub planned: Option<UpdatedZone>,
 }
 
 impl KeyedServer {
@@ -35,6 +37,7 @@ impl KeyedServer {
                 tables: BTreeMap::new(alloc),
             },
             zones: ZoneDatabase::new(alloc),
+            planned: None,
         }
     }
 }

@@ -16,7 +16,10 @@
 //! - `rule ORIGIN grant|deny KEY NAME TYPE ..` adds a rule of a zone: those who have the key may change, or may not, the sets of the name and of all
 //!   below it; of all types but SOA and NS where none is named;
 //! - `update MOMENT ROOM MESSAGE` sends it an update, with room for so many octets of the response: the octets of that behind the origin of the zone
-//!   that was updated, or behind `refused` or `too long`; or `no update`;
+//!   that was updated, or behind `refused`, `unchanged` or `too long`; or `no update`;
+//! - `plan MOMENT MESSAGE` has it plan one, and tells the same; `commit` puts the zone that was planned last in its place: `done`, `overtaken`, or
+//!   `nothing is planned`;
+//! - `expire NAME` has a zone expire;
 //! - `records NAME` tells the records of a zone.
 #![tactic(auto)]
 

@@ -2,11 +2,15 @@
 
 use crate::access::KeyedServer;
 use compared_rows::read_octets;
-use held_updates::{UpdateAccess, UpdateAnswer, update_with_keys};
+use held_updates::{
+    Commit, PlannedUpdate, UpdateAccess, UpdateAnswer, commit_update, plan_update, update_with_keys,
+};
 use key_files::KeyFileError;
 use line_text::{HexText, RecordText, TextError, Words, read_name, read_type};
 use std::alloc::Global;
 use update_policy::{Rule, RuleScope};
+use zone_database::zone_of;
+use zone_map::RecordMap;
 use zone_proto::LowerName;
 
 /// How many types a rule has at most in a row.
@@ -85,9 +89,60 @@ pub fn update_told(
     Ok(match answer {
         UpdateAnswer::Other => format!(in alloc; "no update")?,
         UpdateAnswer::Refused => format!(in alloc; "refused {octets}")?,
+        UpdateAnswer::Unchanged => format!(in alloc; "unchanged {octets}")?,
         UpdateAnswer::TooLong => format!(in alloc; "too long {octets}")?,
         UpdateAnswer::Updated(origin) => format!(in alloc; "{origin} {octets}")?,
     })
+}
+
+/// What a server plans of an update at a moment.
+pub fn plan_told(
+    alloc: Global,
+    server: &mut KeyedServer,
+    mut words: Words<'_>,
+) -> Result<String, TextError> {
+    let now = words.take_u64()?;
+    let message = read_octets(alloc, &mut words)?;
+    words.end()?;
+    let mut out = Vec::new(alloc);
+    let octets = message.as_slice();
+    let (zones, access) = (&server.zones, &server.updates);
+    let planned = plan_update(alloc, zones, access, now, true, octets, &mut out)?;
+    let octets = HexText(out.as_slice());
+    Ok(match planned {
+        PlannedUpdate::Other => format!(in alloc; "no update")?,
+        PlannedUpdate::Refused => format!(in alloc; "refused {octets}")?,
+        PlannedUpdate::Unchanged => format!(in alloc; "unchanged {octets}")?,
+        PlannedUpdate::Updated(updated) => {
+            let told = format!(in alloc; "{} {octets}", updated.zone.origin)?;
+            server.planned = Some(updated);
+            told
+        }
+    })
+}
+
+/// What comes of the update that was planned last.
+pub fn commit_told(alloc: Global, server: &mut KeyedServer) -> Result<String, TextError> {
+    let Some(updated) = server.planned.take() else {
+        return Ok(format!(in alloc; "nothing is planned")?);
+    };
+    Ok(match commit_update(alloc, &mut server.zones, updated)? {
+        Commit::Done => format!(in alloc; "done")?,
+        Commit::Overtaken => format!(in alloc; "overtaken")?,
+    })
+}
+
+/// Has a zone expire: one without records comes in its place.
+pub fn expire_told(
+    alloc: Global,
+    server: &mut KeyedServer,
+    mut words: Words<'_>,
+) -> Result<String, TextError> {
+    let origin = LowerName::from(read_name(alloc, &mut words)?);
+    words.end()?;
+    let zone = zone_of(alloc, origin, RecordMap::new(alloc))?;
+    server.zones.put(alloc, zone)?;
+    Ok(format!(in alloc; "yes")?)
 }
 
 /// The records of a zone.

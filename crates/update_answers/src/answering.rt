@@ -15,6 +15,17 @@ use zone_map::RecordMap;
 use zone_proto::{LowerName, Name, ProtoError};
 use zone_update::{Refusal, Update};
 
+/// What came of an update that is answered.
+#[derive(Drop)]
+pub enum UpdateReply {
+    /// It is refused.
+    Refused,
+    /// It is carried out, and changes nothing: the zone is as it was.
+    Unchanged,
+    /// It is carried out: these are the sets of the zone after it.
+    Updated(RecordMap),
+}
+
 /// Why a message isn't answered.
 #[derive(Clone, Copy, PartialEq, Eq, Debug)]
 pub enum UpdateFault {
@@ -36,8 +47,8 @@ impl From<AllocError> for UpdateFault {
 }
 
 /// Carries out an update of the zone of an origin, which is a message of these octets, for the owner of a key, and writes the response in
-/// place of the octets of `out`. The sets of the zone after it where it is taken, with the code NOERROR; none where it is refused. Those
-/// of the zone are only read.
+/// place of the octets of `out`. Where the update is taken, its code is NOERROR. The sets of the zone are only read; those after an update that
+/// changes them are beside them.
 ///
 /// The steps are those of RFC 2136 section 3: the zone section is looked at (section 3.1), then the update is carried out where the rules
 /// permit it, as `updated_if_permitted` of `update_permission` says. Whether a TSIG is right is to be looked at before, and it is to be
@@ -58,21 +69,21 @@ pub fn answer_update(
     zone: &RecordMap,
     rules: &[Rule],
     key: Option<&LowerName>,
-) -> Result<Option<RecordMap>, UpdateFault>
-    ensures reply { IfOk result (λ after. IsReply
+) -> Result<UpdateReply, UpdateFault>
+    ensures reply { IfOk result (λ came. IsReply
         (outcome rules.now (option_copied key.entry) origin.now zone.now)
-        (update_of message.now) after out.new.items) }
+        (update_of message.now) came out.new.items) }
     ensures fault { IfErr result (IsUnanswered message.now) }
 {
     match read_update(alloc, message) {
         Ok(asked) => answer_asked(alloc, out, origin, zone, rules, key, asked),
         Err(UpdateError::Malformed(header)) => {
             refuse(out, header, Refusal::FormErr, false)?;
-            Ok(None)
+            Ok(UpdateReply::Refused)
         }
         Err(UpdateError::OtherClass(header)) => {
             refuse(out, header, Refusal::NotAuth, false)?;
-            Ok(None)
+            Ok(UpdateReply::Refused)
         }
         Err(UpdateError::NoUpdate) => Err(UpdateFault::NoUpdate),
         Err(UpdateError::Memory) => Err(UpdateFault::Memory),
@@ -88,10 +99,10 @@ fn answer_asked(
     rules: &[Rule],
     key: Option<&LowerName>,
     asked: UpdateMessage,
-) -> Result<Option<RecordMap>, UpdateFault>
-    ensures reply { IfOk result (λ after. IsReply
+) -> Result<UpdateReply, UpdateFault>
+    ensures reply { IfOk result (λ came. IsReply
         (outcome rules.now (option_copied key.entry) origin.now zone.now)
-        (Ok (parts_of asked)) after out.new.items) }
+        (Ok (parts_of asked)) came out.new.items) }
     ensures fault { IfErr result (λ e. e ≡ UpdateFault.Memory) }
 {
     let UpdateMessage {
@@ -101,18 +112,22 @@ fn answer_asked(
         has_extension,
     } = asked;
     match carry_out(alloc, origin, zone, rules, key, name, update) {
-        Ok(after) => {
+        Ok(Some(after)) => {
             write(out, header, 0, has_extension)?;
-            Ok(Some(after))
+            Ok(UpdateReply::Updated(after))
+        }
+        Ok(None) => {
+            write(out, header, 0, has_extension)?;
+            Ok(UpdateReply::Unchanged)
         }
         Err(refusal) => {
             refuse(out, header, refusal, has_extension)?;
-            Ok(None)
+            Ok(UpdateReply::Refused)
         }
     }
 }
 
-/// The sets of a zone after an update of the zone of this name.
+/// The sets of a zone after an update of the zone of this name, or none where it changes nothing.
 fn carry_out(
     alloc: Global,
     origin: &LowerName,
@@ -121,7 +136,7 @@ fn carry_out(
     key: Option<&LowerName>,
     name: Name,
     update: Update,
-) -> Result<RecordMap, Refusal>
+) -> Result<Option<RecordMap>, Refusal>
     ensures { Gives result
         (if is_zone origin.now name then
         updated_if_permitted rules.now (option_copied key.entry) origin.now zone.now

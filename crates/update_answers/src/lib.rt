@@ -6,4 +6,4 @@
 
 mod answering;
 
-pub use answering::{UpdateFault, answer_update};
+pub use answering::{UpdateFault, UpdateReply, answer_update};

@@ -82,6 +82,9 @@ module _ (a : UpdateAnswer) (octets : List ℕ) (t : Told) where
   pub refused_told : a ≡ answer.Refused → IsGivenBy octets t.outcome t.written t.before t.after → t.changed ≡ changed_by a → TellsAnswer a octets t
   refused_told is given changed = by_answer answer.Refused is (given, changed ∙ ap changed_by is)
 
+  pub same_told : a ≡ answer.Unchanged → IsGivenBy octets t.outcome t.written t.before t.after → t.changed ≡ changed_by a → TellsAnswer a octets t
+  same_told is given changed = by_answer answer.Unchanged is (given, changed ∙ ap changed_by is)
+
   pub long_told : a ≡ answer.TooLong → IsGivenBy octets t.outcome t.written t.before t.after → t.changed ≡ changed_by a → TellsAnswer a octets t
   long_told is given changed = by_answer answer.TooLong is (given, changed ∙ ap changed_by is)
 

@@ -1,3 +1,2 @@
 pub mod CallFacts
-pub mod Handles
 pub mod Telling

@@ -1,5 +1,5 @@
 -- A program is told whether a zone changed, and where one did, the response is there.
-use Rattle.std.proofs.Common.{◌≡◌, ◌⊎◌, ◌≤◌, ℕ, List, length, inl, inr, refl, arith}
+use Rattle.std.proofs.Common.{◌≡◌, ◌≢◌, ◌⊎◌, ◌≤◌, ℕ, List, length, inl, inr, refl, arith}
 use Rattle.std.specs.Prelude.{Option, Some, None}
 use Rattle.arrival_calls.specs.declared.client.ClientMessage.{ClientMessage}
 use Rattle.zone_proto.specs.Names.{Name}
@@ -21,6 +21,7 @@ use Rattle.update_calls.specs.Updates.{IsGivenBy, TellsAnswer, Told, UpdatesZone
 has_room : (room : ℕ) (octets : List ℕ) (p : PlannedUpdate) (zs new : List Zone) (origin : Name) → Comes room octets p zs (answer.Updated origin) new → length octets ≤ room
 has_room room octets planned.Other zs new origin (is, same) = absurd cc
 has_room room octets planned.Refused zs new origin (is, same) = absurd cc
+has_room room octets planned.Unchanged zs new origin (is, same) = absurd cc
 has_room room octets (planned.Updated u) zs new origin (inl (fits, is, put)) = fits
 has_room room octets (planned.Updated u) zs new origin (inr (long, is, same)) = absurd cc
 
@@ -32,19 +33,22 @@ is_done octets before after written (Usual o) given fits = absurd given
 is_done octets before after written o given fits = absurd given
 
 module _ (access : UpdateAccess) (m : ClientMessage) (zs new : List Zone) (t : Told) where
+  stays : (a : UpdateAnswer) (octets : List ℕ) → AnswersUpdate access m.moment (length t.before) m.octets.now zs a octets new → ((n : Name) → a ≢ answer.Updated n) → new ≡ zs
+  stays a octets is apart = refusals_change_nothing access m.moment (length t.before) m.octets.now zs new a octets is apart
+
   told_answer : (a : UpdateAnswer) (octets : List ℕ) → AnswersUpdate access m.moment (length t.before) m.octets.now zs a octets new → TellsAnswer a octets t
       → TellsChange (Some access) m zs t new ⊎ TellsNoChange zs t new
-  told_answer answer.Other octets is (outcome, untouched, none) =
-      inr (none, refusals_change_nothing access m.moment (length t.before) m.octets.now zs new octets (inr (inl is)))
-  told_answer answer.Refused octets is (given, none) = inr (none, refusals_change_nothing access m.moment (length t.before) m.octets.now zs new octets (inl is))
-  told_answer answer.TooLong octets is (given, none) = inr (none, refusals_change_nothing access m.moment (length t.before) m.octets.now zs new octets (inr (inr is)))
+  told_answer answer.Other octets is (outcome, untouched, none) = inr (none, stays answer.Other octets is (λ n e. cc))
+  told_answer answer.Refused octets is (given, none) = inr (none, stays answer.Refused octets is (λ n e. cc))
+  told_answer answer.Unchanged octets is (given, none) = inr (none, stays answer.Unchanged octets is (λ n e. cc))
+  told_answer answer.TooLong octets is (given, none) = inr (none, stays answer.TooLong octets is (λ n e. cc))
   told_answer (answer.Updated origin) octets is (given, one) = inl (record {
     changed = one;
     done = is_done octets t.before t.after t.written t.outcome given (has_room (length t.before) octets is.plan zs new origin is.comes);
     kept = access;
     held = refl;
     origin = origin;
-    permitted = updates_are_permitted access m.moment (length t.before) m.octets.now zs new origin octets is;
+    updated = updates_are_permitted access m.moment (length t.before) m.octets.now zs new origin octets is;
   })
 
   told_zones : UpdatesZones access m zs t new → TellsChange (Some access) m zs t new ⊎ TellsNoChange zs t new

@@ -1,12 +1,11 @@
 -- Laws of what a program is told that asks for updates
-use Rattle.std.specs.Prelude.{◌≡◌, ◌⊎◌, ℕ, List, Option, Some}
+use Rattle.std.specs.Prelude.{◌≡◌, ◌⊎◌, List, Option, Some}
 use Rattle.arrival_calls.specs.declared.client.ClientMessage.{ClientMessage}
 use Rattle.zone_database.specs.declared.outcome.Outcome.TheVariants.{Done}
 use Rattle.zone_database.specs.declared.zone.Zone.{Zone}
 use Rattle.zone_proto.specs.Names.{Name}
 use Rattle.held_updates.specs.declared.access.UpdateAccess.{UpdateAccess}
-use Rattle.held_updates.specs.Laws.{IsPermitted}
-use Rattle.update_calls.specs.declared.outcome.UpdateOutcome.{UpdateOutcome}
+use Rattle.held_updates.specs.Laws.{ChangesZone}
 use Rattle.update_calls.specs.declared.outcome.UpdateOutcome.TheVariants.{Usual}
 use Rattle.update_calls.specs.Updates.{Told, UpdatesByAccess}
 
@@ -17,7 +16,7 @@ pub record TellsChange (access : Option UpdateAccess) (m : ClientMessage) (zs : 
   pub kept : UpdateAccess
   pub held : access ≡ Some kept
   pub origin : Name
-  pub permitted : IsPermitted kept m.moment m.octets.now zs origin new
+  pub updated : ChangesZone kept m.moment m.octets.now zs origin new
 
 -- it is told that no zone changed, and none did
 abbrev pub TellsNoChange : List Zone → Told → List Zone → Type 0

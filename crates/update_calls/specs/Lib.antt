@@ -1,5 +1,4 @@
 pub mod Accesses
-pub mod Holding
 pub mod Laws
 pub mod Outcomes
 pub mod Updates

@@ -5,6 +5,7 @@ ghost use Rattle.update_calls.specs.Accesses.{IsRuled, ReadsAccess, RulesHeld, T
 use crate::handle::UpdatesHandle;
 use crate::outcome::UpdateOutcome;
 use crate::rules::{RuleTexts, ZoneRule, rule_of};
+use call_handles::Handle;
 use held_updates::UpdateAccess;
 use key_files::{KeyFileError, KeyFileFault};
 use std::alloc::Global;

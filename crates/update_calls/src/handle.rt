@@ -1,83 +1,53 @@
 //! What a caller that isn't Rattle keeps of the keys of a server, and of its rules.
-ghost use Rattle.std.specs.Prelude.{◌≡◌, Some, None, Option, MatchOption};
-ghost use Rattle.update_calls.specs.Holding.{held_code, owns_held};
+ghost use Rattle.std.specs.Coded.{coded_option};
+ghost use Rattle.std.specs.Prelude.{◌≡◌, Option};
+ghost use Rattle.call_handles.specs.Holding.{owns_held};
 ghost use Rattle.held_updates.specs.declared.access.UpdateAccess.{UpdateAccess as Kept};
+ghost use Rattle.held_updates.specs.contracts.access.UpdateAccess.{the_row};
 
-use call_handles::RawBox;
+use call_handles::{Handle, NullableBox};
 use held_updates::UpdateAccess;
 use std::alloc::Global;
 use std::marker::Model;
-use std::{mem, ptr};
 
 /// The keys of a server and the rules of its zones behind a pointer, which is null if there are none. In memory it is that pointer alone.
 #[repr(C)]
 pub struct UpdatesHandle {
     ptr: *mut u8,
     alloc: Global,
-    pub ghost held: { Option Kept } by { held_code },
+    pub ghost held: { Option Kept } by { coded_option the_row.coded },
 }
 
 impl Model for UpdatesHandle {
-    ghost also_owns = { λ h. owns_held h.alloc h.ptr h.held };
+    ghost also_owns = { λ h. owns_held the_row h.alloc h.ptr h.held };
 }
 
-impl UpdatesHandle {
-    /// A handle that holds nothing.
-    pub fn empty(alloc: Global) -> UpdatesHandle
-        ensures { result.held ≡ None }
-    {
-        let ptr = ptr::null_mut();
-        UpdatesHandle { ptr, alloc }
-    }
+impl Handle for UpdatesHandle {
+    type Content = UpdateAccess;
 
-    /// A handle of the keys of a server.
-    fn full(access: RawBox<UpdateAccess, Global>) -> UpdatesHandle
-        ensures { result.held ≡ Some access.content }
+    ghost held = { λ h. h.held };
+
+    fn from_raw(raw: NullableBox<UpdateAccess>) -> UpdatesHandle
+        ensures { result.held ≡ raw.content }
     {
-        let RawBox { ptr, alloc } = access;
+        let NullableBox { ptr, alloc } = raw;
         let ptr = ptr as *mut u8;
         UpdatesHandle { ptr, alloc }
     }
 
-    /// What the handle holds.
-    fn content(self) -> Option<RawBox<UpdateAccess, Global>>
-        ensures { MatchOption result (self.held ≡ None) (λ raw. self.held ≡ Some raw.content) }
+    fn into_raw(self) -> NullableBox<UpdateAccess>
+        ensures { result.content ≡ self.held }
     {
         let UpdatesHandle { ptr, alloc } = self;
         let ptr = ptr as *mut UpdateAccess;
-        if ptr.is_null() {
-            None
-        } else {
-            Some(RawBox { ptr, alloc })
-        }
-    }
-
-    /// Takes the keys out.
-    pub fn take(&mut self, alloc: Global) -> Option<Box<UpdateAccess>>
-        ensures taken { MatchOption result (self.old.held ≡ None)
-            (λ access. self.old.held ≡ Some access.value) }
-        ensures left { self.new.held ≡ None }
-    {
-        match mem::replace(self, UpdatesHandle::empty(alloc)).content() {
-            Some(raw) => Some(raw.whole()),
-            None => None,
-        }
-    }
-
-    /// Puts the keys of a server in place of what is held.
-    pub fn put(&mut self, access: Box<UpdateAccess>)
-        ensures { self.new.held ≡ Some access.value }
-    {
-        drop(mem::replace(self, UpdatesHandle::full(RawBox::apart(access))));
+        NullableBox { ptr, alloc }
     }
 }
 
 /// Gives the memory of the keys back.
 impl Drop for UpdatesHandle {
     fn drop(self) {
-        if let Some(raw) = self.content() {
-            drop(raw.whole());
-        }
+        drop(self.into_raw().whole());
     }
 }
 

@@ -6,6 +6,7 @@ ghost use Rattle.update_calls.specs.Updates.{changed_by, told, IsGivenBy, TellsA
 use crate::handle::UpdatesHandle;
 use crate::outcome::UpdateOutcome;
 use arrival_calls::ClientMessage;
+use call_handles::Handle;
 use held_updates::{UpdateAccess, UpdateAnswer, update_with_keys};
 use std::alloc::Global;
 use zone_database::{DatabaseHandle, Outcome, ZoneDatabase, give};
@@ -115,7 +116,7 @@ fn update_by(
 }
 
 /// Tells what came of a message, whose response has these octets.
-#[tactic(auto, using(crate::proofs::CallFacts::other_told, crate::proofs::CallFacts::refused_told, crate::proofs::CallFacts::long_told, crate::proofs::CallFacts::updated_told))]
+#[tactic(auto, using(crate::proofs::CallFacts::other_told, crate::proofs::CallFacts::refused_told, crate::proofs::CallFacts::same_told, crate::proofs::CallFacts::long_told, crate::proofs::CallFacts::updated_told))]
 fn tell_answer(
     answer: &UpdateAnswer,
     octets: &[u8],
@@ -133,6 +134,7 @@ fn tell_answer(
             UpdateOutcome::NoUpdate
         }
         UpdateAnswer::Refused => give_response(octets, buffer, written),
+        UpdateAnswer::Unchanged => give_response(octets, buffer, written),
         UpdateAnswer::TooLong => give_response(octets, buffer, written),
         UpdateAnswer::Updated(_) => give_response(octets, buffer, written),
     }

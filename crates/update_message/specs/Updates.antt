@@ -2,7 +2,7 @@
 use Rattle.std.specs.Prelude.{◌≡◌, ℕ, Bool, true, false, ◌==◌, ◌&&◌, ◌||◌, not, nat_le, count_by, if◌then◌else◌, List, [], ◌∷◌, length, Option, Some, None, option_map, Result, Ok, Err}
 use Rattle.std.specs.List.{list_any}
 use Rattle.zone_proto.specs.Names.{Name}
-use Rattle.zone_proto.specs.Types.{IN, SOA}
+use Rattle.zone_proto.specs.Types.{IN, OPT, SOA}
 use Rattle.zone_proto.specs.declared.dns_class.DNSClass.{DNSClass}
 use Rattle.message_reading.specs.Octets.{◌>>=◌, octets_of, alone, offset_of}
 use Rattle.message_reading.specs.MessageNames.{name_of}
@@ -50,7 +50,7 @@ additional_of octets = record_frame_of octets >>= λ r. Some (r.0, r.2)
 
 -- an OPT record is of type 41 (RFC 6891 section 6.1.2)
 abbrev pub is_extension : RecordFrame → Bool
-is_extension frame = frame.record_type == 41
+is_extension frame = frame.record_type == OPT
 
 abbrev pub is_astray : RecordFrame → Bool
 is_astray frame = is_extension frame && not frame.is_at_root

@@ -16,14 +16,6 @@ use zone_update::{Content, Entry, Update};
 /// The opcode of an update (RFC 2136 section 1.3).
 pub const OPCODE: u8 = 5;
 
-/// The type of an OPT record (RFC 6891 section 6.1.2).
-const OPT: u16 = 41;
-
-/// The classes NONE and ANY (RFC 2136 section 1.3).
-const CLASS_NONE: DNSClass = DNSClass(254);
-
-const CLASS_ANY: DNSClass = DNSClass(255);
-
 /// Reads an update: its header, its zone, its prerequisites and its changes, to the last octet of the message (RFC 2136 section 2).
 /// Of the additional records only their frames are read, whatever their data are: a TSIG is to be checked, and taken off, before.
 ///
@@ -218,7 +210,7 @@ fn has_extension(frames: &[RecordFrame]) -> bool
 fn is_extension(frame: RecordFrame) -> bool
     ensures { result ≡ is_extension frame }
 {
-    frame.record_type == OPT
+    frame.record_type == RecordType::OPT.0
 }
 
 /// So many records of a section at the start of the last octets of a message, and what stands after them.
@@ -312,5 +304,5 @@ fn content_of(
 fn has_no_data(is_prerequisite: bool, class: DNSClass) -> bool
     ensures { result ≡ has_no_data is_prerequisite class.0 }
 {
-    class == CLASS_ANY || (is_prerequisite && class == CLASS_NONE)
+    class == DNSClass::ANY || (is_prerequisite && class == DNSClass::NONE)
 }

@@ -16,12 +16,12 @@ use Rattle.update_policy.specs.declared.rule.Rule.{Rule}
 use Rattle.zone_update.specs.Changes.{changes_of}
 use Rattle.zone_update.specs.Demands.{are_met, demands_of}
 use Rattle.zone_update.specs.Entries.{◌>>=◌}
-use Rattle.zone_update.specs.Updates.{finished, run, same_serial, serial_before, updated, with_next_serial, zone_serial, Course}
+use Rattle.zone_update.specs.Updates.{finished, run, same_serial, serial_before, with_next_serial, zone_serial, Course}
 use Rattle.zone_update.specs.declared.change.Change.{Change}
 use Rattle.zone_update.specs.declared.entry.Entry.{Entry}
 use Rattle.zone_update.specs.declared.refusal.Refusal.{Refusal}
 use Rattle.zone_update.specs.declared.refusal.Refusal.TheVariants.{Refused}
-use Rattle.update_permission.specs.Permissions.{is_each_permitted}
+use Rattle.update_permission.specs.Permissions.{changed_alone, if_changed, is_each_permitted}
 use Rattle.update_permission.specs.PermittedChanges.{HasNextSerial, NothingChangesWithoutKey, PermittedSetsAloneChange}
 use Rattle.update_permission.proofs.Apart.{put_found}
 use Rattle.update_permission.proofs.Stays.{run_stays, Stays}
@@ -73,32 +73,39 @@ module _ (rules : List Rule) (requestor origin : Name) (m : Sets) where
   start : Stays rules requestor origin m m
   start n t = inl refl
 
-  -- an update without prerequisites
-  changed : (after : Sets) (changes : List Entry) → is_each_permitted rules requestor origin m changes ≡ true → updated origin m [] changes ≡ Ok after → (n : Name) (t : ℕ)
+  -- sets that are changed, with the serial that goes on
+  ended : (c : Course) (after : Sets) → Stays rules requestor origin m c.sets → (b : Bool)
+      → ◌≡◌ {A = Result (Option Sets) Refusal} (Ok (if b then Some (finished origin m c) else None)) (Ok (Some after))
+      → (n : Name) (t : ℕ) → (set_at after n t ≡ set_at m n t) ⊎ (IsTrue (permits rules requestor n t) ⊎ HasNextSerial origin m after n t)
+  ended c after stays false g n t = absurd cc
+  ended c after stays true g n t =
+      let same : finished origin m c ≡ after = cc in
+      subst (λ (x : Sets). (set_at x n t ≡ set_at m n t) ⊎ (IsTrue (permits rules requestor n t) ⊎ HasNextSerial origin m x n t)) same (finished_stays c stays n t)
+
+  -- changes without prerequisites
+  changed : (after : Sets) (changes : List Entry) → is_each_permitted rules requestor origin m changes ≡ true → changed_alone origin m changes ≡ Ok (Some after) → (n : Name) (t : ℕ)
       → (set_at after n t ≡ set_at m n t) ⊎ (IsTrue (permits rules requestor n t) ⊎ HasNextSerial origin m after n t)
   unfolding demands_of
   changed after changes may h n t = by (changes_of origin changes) refl h
     where
       by : (o : Result (List Change) Refusal) → changes_of origin changes ≡ o
-          → (o >>= λ cs. Ok (finished origin m (run origin (serial_before origin m) (record { sets = m; changed = false }) cs))) ≡ Ok after
+          → ((o >>= λ cs. Ok (run origin (serial_before origin m) (record { sets = m; changed = false }) cs)) >>= λ c. Ok (if_changed origin m c)) ≡ Ok (Some after)
           → (set_at after n t ≡ set_at m n t) ⊎ (IsTrue (permits rules requestor n t) ⊎ HasNextSerial origin m after n t)
       by (Err e) p g = absurd cc
       by (Ok cs) p g =
           let made : Course = run origin (serial_before origin m) (record { sets = m; changed = false }) cs in
-          let same : finished origin m made ≡ after = cc in
-          subst (λ (x : Sets). (set_at x n t ≡ set_at m n t) ⊎ (IsTrue (permits rules requestor n t) ⊎ HasNextSerial origin m x n t)) same
-          (finished_stays made (run_stays rules requestor origin m (serial_before origin m) changes cs (record { sets = m; changed = false }) p may start) n t)
+          ended made after (run_stays rules requestor origin m (serial_before origin m) changes cs (record { sets = m; changed = false }) p may start) made.changed g n t
 
 pub permitted_sets_alone_change : PermittedSetsAloneChange
 permitted_sets_alone_change rules requestor origin m after prerequisites changes h n t =
     of (are_met origin m prerequisites) h
   where
-    by : (b : Bool) → is_each_permitted rules requestor origin m changes ≡ b → (if b then updated origin m [] changes else Err Refused) ≡ Ok after
+    by : (b : Bool) → is_each_permitted rules requestor origin m changes ≡ b → (if b then changed_alone origin m changes else Err Refused) ≡ Ok (Some after)
         → (set_at after n t ≡ set_at m n t) ⊎ (IsTrue (permits rules requestor n t) ⊎ HasNextSerial origin m after n t)
     by true e g = changed rules requestor origin m after changes e g n t
     by false e g = absurd cc
 
-    of : (o : Result (Unit {0}) Refusal) → (o >>= λ _. if is_each_permitted rules requestor origin m changes then updated origin m [] changes else Err Refused) ≡ Ok after
+    of : (o : Result (Unit {0}) Refusal) → (o >>= λ _. if is_each_permitted rules requestor origin m changes then changed_alone origin m changes else Err Refused) ≡ Ok (Some after)
         → (set_at after n t ≡ set_at m n t) ⊎ (IsTrue (permits rules requestor n t) ⊎ HasNextSerial origin m after n t)
     of (Err e) g = absurd cc
     of (Ok x) g = by (is_each_permitted rules requestor origin m changes) refl g

@@ -1,5 +1,5 @@
 -- Updates by those who may make them (RFC 2136 section 3.3)
-use Rattle.std.specs.Prelude.{ℕ, Bool, false, not, ◌==◌, ◌&&◌, ◌||◌, if◌then◌else◌, List, [], Option, Some, None, Result, Err}
+use Rattle.std.specs.Prelude.{ℕ, Bool, false, not, ◌==◌, ◌&&◌, ◌||◌, if◌then◌else◌, List, [], Option, Some, None, Result, Ok, Err}
 use Rattle.std.specs.List.{list_all}
 use Rattle.zone_proto.specs.Data.{type_of}
 use Rattle.zone_proto.specs.Names.{Name, lower}
@@ -10,7 +10,7 @@ use Rattle.update_policy.specs.declared.rule.Rule.{Rule}
 use Rattle.zone_update.specs.Demands.{are_met}
 use Rattle.zone_update.specs.Entries.{◌>>=◌, class_any}
 use Rattle.zone_update.specs.Processing.{goes}
-use Rattle.zone_update.specs.Updates.{updated}
+use Rattle.zone_update.specs.Updates.{course_of, finished, Course}
 use Rattle.zone_update.specs.declared.entry.Content.{Content}
 use Rattle.zone_update.specs.declared.entry.Content.TheVariants.{Data}
 use Rattle.zone_update.specs.declared.entry.Entry.{Entry}
@@ -48,10 +48,17 @@ abbrev pub are_permitted : List Rule → Option Name → Name → Sets → List 
 are_permitted rules None origin m changes = false
 are_permitted rules (Some key) origin m changes = is_each_permitted rules key origin m changes
 
+-- the sets after changes that are made, with the serial that goes on; none where nothing changed
+abbrev pub if_changed : Name → Sets → Course → Option Sets
+if_changed origin before c = if c.changed then Some (finished origin before c) else None
+
+abbrev pub changed_alone : Name → Sets → List Entry → Result (Option Sets) Refusal
+changed_alone origin m changes = course_of origin m [] changes >>= λ c. Ok (if_changed origin m c)
+
 -- In the standard's order the prerequisites are looked at (section 3.2), then whether each change is permitted (section 3.3), and then the
 -- changes are made (section 3.4). Who has no key is refused before, as who has a wrong one is (RFC 8945 section 5.2).
-abbrev pub updated_if_permitted : List Rule → Option Name → Name → Sets → List Entry → List Entry → Result Sets Refusal
+abbrev pub updated_if_permitted : List Rule → Option Name → Name → Sets → List Entry → List Entry → Result (Option Sets) Refusal
 updated_if_permitted rules None origin m prerequisites changes = Err Refused
 updated_if_permitted rules (Some key) origin m prerequisites changes =
     are_met origin m prerequisites >>= λ _.
-    if is_each_permitted rules key origin m changes then updated origin m [] changes else Err Refused
+    if is_each_permitted rules key origin m changes then changed_alone origin m changes else Err Refused

@@ -4,6 +4,7 @@
 
 pub mod laws;
 mod permission;
+mod serials;
 mod updating;
 
 pub use permission::is_permitted;

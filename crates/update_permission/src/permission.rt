@@ -11,9 +11,6 @@ use zone_map::RecordMap;
 use zone_proto::{DNSClass, LowerName, ProtoError, RecordType, RrKey};
 use zone_update::{Content, Entry, goes, types_at};
 
-/// The class ANY (RFC 1035 section 3.2.5).
-const CLASS_ANY: DNSClass = DNSClass(255);
-
 /// Whether a table of rules permits the owner of a key each of these changes in the zone of an origin: the set of its name and of the type
 /// of its data, or its own type where it has none; and where all sets of a name are deleted (RFC 2136 section 2.5.3) each of those that go
 /// with it. Nothing is permitted without a key. Refused by `Memory` alone.
@@ -93,7 +90,7 @@ fn type_about(entry: &Entry) -> RecordType
 fn deletes_name(entry: &Entry) -> bool
     ensures { result ≡ deletes_name entry.now }
 {
-    entry.dns_class == CLASS_ANY && entry.record_type == RecordType::ANY
+    entry.dns_class == DNSClass::ANY && entry.record_type == RecordType::ANY
 }
 
 /// Whether the owner of a key may change each of these types of a name whose sets go with it.

@@ -1,21 +1,21 @@
 //! An update that is carried out where it is permitted.
-ghost use Rattle.std.specs.Prelude.{[], Some, option_copied};
+ghost use Rattle.std.specs.Prelude.{Some, option_copied};
 ghost use Rattle.zone_update.specs.Entries.{Gives};
-ghost use Rattle.zone_update.specs.Updates.{updated};
-ghost use Rattle.update_permission.specs.Permissions.{updated_if_permitted};
+ghost use Rattle.update_permission.specs.Permissions.{changed_alone, updated_if_permitted};
 
 use crate::permission::is_permitted;
+use crate::serials::finished;
 use std::alloc::Global;
 use update_policy::Rule;
 use zone_map::RecordMap;
 use zone_proto::LowerName;
-use zone_update::{Entry, Refusal, Update, check_prerequisites, updated};
+use zone_update::{Entry, Refusal, Update, changed_sets, check_prerequisites};
 
 /// The sets of the zone of an origin after an update that the owner of a key asks for, where a table of rules permits each of its changes
-/// ([`is_permitted`]). Those that it has are only read, so a refusal leaves nothing to undo.
+/// ([`is_permitted`]); none where it changes nothing. Those that it has are only read, so a refusal leaves nothing to undo.
 ///
 /// It is done in the order of RFC 2136 section 3: the prerequisites are looked at, then whether each change is permitted, and then the
-/// changes are made. But who has no key is refused before all that, as who has a wrong one is (RFC 8945 section 5.2): prerequisites may
+/// changes are made; where they change anything, the serial goes on (section 3.6). But who has no key is refused before all that, as who has a wrong one is (RFC 8945 section 5.2): prerequisites may
 /// be many, and are compared with whole sets.
 ///
 /// # Errors
@@ -29,7 +29,7 @@ pub fn updated_if_permitted(
     origin: &LowerName,
     zone: &RecordMap,
     update: Update,
-) -> Result<RecordMap, Refusal>
+) -> Result<Option<RecordMap>, Refusal>
     ensures { Gives result
         (updated_if_permitted rules.now (option_copied key.entry) origin.now zone.now
         update.prerequisites.items update.changes.items) }
@@ -48,7 +48,7 @@ fn updated_by(
     origin: &LowerName,
     zone: &RecordMap,
     update: Update,
-) -> Result<RecordMap, Refusal>
+) -> Result<Option<RecordMap>, Refusal>
     ensures { Gives result
         (updated_if_permitted rules.now (Some key.now) origin.now zone.now
         update.prerequisites.items update.changes.items) }
@@ -61,24 +61,32 @@ fn updated_by(
         return Err(refusal);
     }
     match is_permitted(alloc, rules, Some(key), origin, zone, changes.as_slice()) {
-        Ok(true) => updated_alone(alloc, origin, zone, changes),
+        Ok(true) => changed_alone(alloc, origin, zone, changes),
         Ok(false) => Err(Refusal::Refused),
         Err(_) => Err(Refusal::Memory),
     }
 }
 
-/// The sets of a zone after changes without prerequisites.
-fn updated_alone(
+/// The sets of a zone after changes without prerequisites, or none where these change nothing.
+#[tactic(auto, using(crate::proofs::Endings::ends_changed, crate::proofs::Endings::ends_same, crate::proofs::Endings::ends_refused))]
+fn changed_alone(
     alloc: Global,
     origin: &LowerName,
     zone: &RecordMap,
     changes: Vec<Entry>,
-) -> Result<RecordMap, Refusal>
-    ensures { Gives result (updated origin.now zone.now [] changes.items) }
+) -> Result<Option<RecordMap>, Refusal>
+    ensures { Gives result (changed_alone origin.now zone.now changes.items) }
 {
     let update = Update {
         prerequisites: Vec::new(alloc),
         changes,
     };
-    updated(alloc, origin, zone, update)
+    match changed_sets(alloc, origin, zone, update) {
+        Ok(Some(after)) => match finished(origin, zone, after) {
+            Ok(after) => Ok(Some(after)),
+            Err(_) => Err(Refusal::Memory),
+        },
+        Ok(None) => Ok(None),
+        Err(refusal) => Err(refusal),
+    }
 }

@@ -69,8 +69,8 @@ fn read_entry(alloc: Global, words: &mut Words<'_>) -> Result<Entry, TextError> 
 fn read_class(words: &mut Words<'_>) -> Result<DNSClass, TextError> {
     match words.take_needed()? {
         b"IN" => Ok(DNSClass::IN),
-        b"NONE" => Ok(DNSClass(254)),
-        b"ANY" => Ok(DNSClass(255)),
+        b"NONE" => Ok(DNSClass::NONE),
+        b"ANY" => Ok(DNSClass::ANY),
         word => match read_u16(word) {
             Some(number) => Ok(DNSClass(number)),
             None => Err(TextError::BadText),

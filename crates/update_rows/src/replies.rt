@@ -6,7 +6,7 @@ use alloc_failures::scarce_answer;
 use compared_rows::octets_of;
 use line_text::{HexText, TextError, Words, read_name};
 use std::alloc::Global;
-use update_answers::{UpdateFault, answer_update};
+use update_answers::{UpdateFault, UpdateReply, answer_update};
 use zone_proto::LowerName;
 
 /// The code of a response for want of memory (RFC 1035 section 4.1.1).
@@ -48,9 +48,12 @@ fn reply_to(
         rules,
         key,
     ) {
-        Ok(None) => Ok(format!(in alloc; "{}", HexText(out.as_slice()))?),
-        Ok(Some(after)) => {
-            let told = exchange(alloc, case, Ok(after))?;
+        Ok(UpdateReply::Refused) => Ok(format!(in alloc; "{}", HexText(out.as_slice()))?),
+        Ok(UpdateReply::Unchanged) => {
+            Ok(format!(in alloc; "{} unchanged", HexText(out.as_slice()))?)
+        }
+        Ok(UpdateReply::Updated(after)) => {
+            let told = exchange(alloc, case, Ok(Some(after)))?;
             Ok(format!(in alloc; "{} {told}", HexText(out.as_slice()))?)
         }
         Err(UpdateFault::NoUpdate) => Ok(format!(in alloc; "no update")?),

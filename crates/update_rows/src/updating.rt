@@ -16,8 +16,10 @@ use zone_update::{Refusal, updated};
 pub fn update_answer(alloc: Global, case: &mut Case, text: &str) -> Result<String, TextError> {
     let update = read_update(alloc, text)?;
     let origin = LowerName::new(&case.origin)?;
-    let made = updated(alloc, &origin, &case.zone, update);
-    exchange(alloc, case, made)
+    match updated(alloc, &origin, &case.zone, update) {
+        Ok(after) => exchange(alloc, case, Ok(Some(after))),
+        Err(refusal) => exchange(alloc, case, Err(refusal)),
+    }
 }
 
 /// The same where the table of rules permits it to who has the key that is named first.
@@ -50,14 +52,15 @@ fn ask_by(
     exchange(alloc, case, made)
 }
 
-/// Takes the zone after an update: the code, and what is taken out and given.
+/// Takes the zone after an update, if there is one: the code, and what is taken out and given.
 pub fn exchange(
     alloc: Global,
     case: &mut Case,
-    made: Result<RecordMap, Refusal>,
+    made: Result<Option<RecordMap>, Refusal>,
 ) -> Result<String, TextError> {
     match made {
-        Ok(after) => {
+        Ok(None) => Ok(format!(in alloc; "NOERROR")?),
+        Ok(Some(after)) => {
             let difference = difference_between(alloc, &case.zone, &after)?;
             let told = format!(in alloc; "NOERROR{}", difference_text(alloc, &difference)?)?;
             let before = copied(alloc, &case.zone)?;

@@ -7,7 +7,7 @@ use std::alloc::Global;
 use zone_difference::difference_between;
 use zone_history::{Version, difference_since, versions_since};
 use zone_map::RecordMap;
-use zone_proto::{LowerName, RData, RecordType, RrKey};
+use zone_proto::{LowerName, RecordType, RrKey, first_serial};
 
 /// Adds the version that a zone had before an update.
 pub fn add_version(
@@ -25,14 +25,8 @@ pub fn add_version(
 
 /// The serial of the SOA under a key, 0 without one.
 fn serial_under(zone: &RecordMap, apex: &RrKey) -> u32 {
-    let Some(set) = zone.get(apex) else {
-        return 0;
-    };
-    match set.as_slice().first() {
-        Some(record) => match &record.rdata {
-            RData::SOA(soa) => soa.serial,
-            _ => 0,
-        },
+    match zone.get(apex) {
+        Some(set) => first_serial(set.as_slice()).unwrap_or(0),
         None => 0,
     }
 }

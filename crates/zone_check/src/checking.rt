@@ -12,10 +12,10 @@ ghost use Rattle.zone_texts.specs.Inclusions.{Files};
 ghost use Rattle.zone_texts.specs.Readings.{IsFaultless};
 ghost use Rattle.zone_file.specs.declared.placed.PlacedRecord.{PlacedRecord};
 
-use crate::reporting::{tell, tell_faults};
 use crate::wanted::Wanted;
 use crate::zone::check_zone;
 use file_origins::first_origin;
+use host_texts::{tell, tell_faults, tell_unread};
 use std::alloc::Global;
 use std::cmp::Ordering;
 use std::io;
@@ -73,10 +73,7 @@ pub fn check<R: Read, T: Texts, W: Write, E: Write>(
     match read_files(alloc, origin, wanted.file, input, texts, wanted.most_told) {
         Ok(reading) => check_reading(alloc, wanted, reading, output, fault),
         Err(FilesError::Memory) => tell(fault, b"out of memory\n"),
-        Err(FilesError::Input(kind)) => {
-            let _ = write!(fault, "{}: the file can't be read: {kind}\n", wanted.file);
-            2
-        }
+        Err(FilesError::Input(kind)) => tell_unread(fault, wanted.file, kind),
     }
 }
 
@@ -101,7 +98,7 @@ fn check_reading<W: Write, E: Write>(
         → DeniesRightly (served_zone z) }
 {
     if !reading.is_faultless() {
-        tell_faults(fault, &reading);
+        tell_faults(fault, &reading, ", which --all tells");
         return 1;
     }
     let Reading {

@@ -6,7 +6,7 @@ ghost use Rattle.zone_response.specs.Queries.{Zone};
 ghost use Rattle.response_laws.specs.ProvedSayings.{IsUnreferred};
 ghost use Rattle.zone_check.specs.Denials.{DeniesRightly, IsReported, first_announced, served};
 
-use crate::reporting::tell_at;
+use host_texts::tell_at;
 use std::fmt;
 use std::io::Write;
 use zone_builder::{Loaded, denial_kind};

@@ -6,19 +6,16 @@ ghost use Rattle.zone_proto.specs.Keys.{key};
 ghost use Rattle.zone_lookup.specs.StartOfAuthority.{serial as serial_at};
 ghost use Rattle.zone_check.specs.Digests.{are_digests_right, is_digest_right};
 
-use crate::reporting::{tell, tell_at};
+use host_texts::{tell, tell_at};
 use std::alloc::Global;
 use std::fmt;
 use std::io::Write;
 use zone_builder::Loaded;
-use zone_digest::{DigestFault, digest_fault};
+use zone_digest::{DigestFault, ZONEMD, digest_fault};
 use zone_lookup::start_of_authority::first_soa;
 use zone_planning::PlanFault;
 use zone_proto::{LowerName, RData, Record, RecordType, RrKey};
 use zone_texts::Sources;
-
-/// The type of a zone's digest (RFC 8976 section 2).
-const ZONEMD: RecordType = RecordType(63);
 
 /// Tells what is wrong with the ZONEMD records of a zone, and gives whether nothing is (RFC 8976 section 4). None if it can't be told,
 /// and why.

@@ -10,39 +10,28 @@ mod reporting;
 mod wanted;
 mod zone;
 
-use host_texts::HostTexts;
-use std::alloc::{AllocError, Global};
-use std::io::{BufWriter, Write};
+use host_texts::{HostTexts, arguments, tell, tell_unread};
+use std::alloc::Global;
+use std::io::BufWriter;
 use std::process::ExitCode;
 use std::time::SystemTime;
-use std::{env, fs, io};
+use std::{fs, io};
 use wanted::{Wanted, wanted_by};
 
 const USAGE: &[u8] =
     b"usage: zone_check [--all] [--print | --at MOMENT|now [--soon TIME] [--strict]] FILE [ORIGIN]\n";
 
 fn main(rt: HostRuntime) -> ExitCode {
-    let alloc = rt.alloc();
-    let args = match env::args(&rt) {
-        Ok(words) => words.skip(1).collect::<Vec<String>>(alloc),
-        // Words that are no text are wrong arguments, as no words are.
-        Err(e) if e.kind() == io::ErrorKind::InvalidData => Ok(Vec::new(alloc)),
-        Err(_) => Err(AllocError),
-    };
-    let Ok(args) = args else {
-        let _ = rt.stderr().write_all(b"out of memory\n");
-        return ExitCode::from(2);
+    let mut fault = rt.stderr();
+    let Ok(args) = arguments(&rt) else {
+        return ExitCode::from(tell(&mut fault, b"out of memory\n"));
     };
     let Ok(now) = SystemTime::now(&rt) else {
-        let _ = rt.stderr().write_all(b"the clock can't be read\n");
-        return ExitCode::from(2);
+        return ExitCode::from(tell(&mut fault, b"the clock can't be read\n"));
     };
-    let status = match wanted_by(alloc, args.as_slice(), seconds_of(now)) {
-        Some(wanted) => check_file(&rt, alloc, &wanted),
-        None => {
-            let _ = rt.stderr().write_all(USAGE);
-            2
-        }
+    let status = match wanted_by(rt.alloc(), args.as_slice(), seconds_of(now)) {
+        Some(wanted) => check_file(&rt, rt.alloc(), &wanted),
+        None => tell(&mut fault, USAGE),
     };
     ExitCode::from(status)
 }
@@ -52,19 +41,10 @@ fn check_file(rt: &HostRuntime, alloc: Global, wanted: &Wanted<'_>) -> u8 {
     let mut fault = rt.stderr();
     let mut input = match fs::open(rt, wanted.file) {
         Ok(input) => input,
-        Err(e) => {
-            let _ = write!(
-                fault,
-                "{}: the file can't be read: {}\n",
-                wanted.file,
-                e.kind()
-            );
-            return 2;
-        }
+        Err(e) => return tell_unread(&mut fault, wanted.file, e.kind()),
     };
     let Ok(mut output) = BufWriter::new(alloc, io::writer(rt)) else {
-        let _ = fault.write_all(b"out of memory\n");
-        return 2;
+        return tell(&mut fault, b"out of memory\n");
     };
     let mut texts = HostTexts { rt };
     checking::check(

@@ -7,8 +7,9 @@ ghost use Rattle.zone_publication.specs.Warnings.{is_allowed};
 ghost use Rattle.zone_check.specs.Publications.{is_ready};
 
 use crate::digests::tell_digests;
-use crate::reporting::{Warning, tell, tell_at, tell_more};
+use crate::reporting::{Warning, tell_more};
 use crate::wanted::Wanted;
+use host_texts::{tell, tell_at};
 use std::alloc::Global;
 use std::io::Write;
 use zone_builder::Loaded;

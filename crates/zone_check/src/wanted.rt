@@ -3,10 +3,8 @@
 use std::alloc::Global;
 use zone_proto::Name;
 use zone_publication::Period;
+use zone_texts::MOST_TOLD;
 use zone_tokens::{read_moment, read_ttl};
-
-/// How many faults and warnings are told where not all are to be.
-const MOST_TOLD: usize = 20;
 
 /// How soon a signature may end before it is told, in seconds, where nothing else is said: three days.
 const SOON: u32 = 259_200;

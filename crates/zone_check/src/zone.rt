@@ -13,9 +13,10 @@ ghost use Rattle.zone_check.specs.Publications.{is_ready, IsFit};
 
 use crate::denial::{Denial, tell_denial};
 use crate::publication::tell_publication;
-use crate::reporting::{Warning, tell, tell_at};
+use crate::reporting::Warning;
 use crate::wanted::Wanted;
 use file_origins::zone_origin;
+use host_texts::{tell, tell_at};
 use std::alloc::Global;
 use std::io::Write;
 use std::{fmt, io};

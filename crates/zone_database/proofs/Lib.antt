@@ -1,6 +1,5 @@
 pub mod Answered
 pub mod CallFacts
-pub mod Handles
 pub mod OwnDenials
 pub mod Preparing
 pub mod PutsInOrder

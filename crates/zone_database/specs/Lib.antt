@@ -1,7 +1,6 @@
 pub mod Calls
 pub mod Databases
 pub mod ChainsBeside
-pub mod Holding
 pub mod Origins
 pub mod ReadyZones
 pub mod Outcomes

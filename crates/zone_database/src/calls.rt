@@ -9,12 +9,13 @@ use crate::handle::DatabaseHandle;
 use crate::loads::{add_zone, load_zone, prepare_zone, remove_zone};
 use crate::outcome::Outcome;
 use crate::serials::serial_of;
+use call_handles::Handle;
 use std::alloc::Global;
 use std::mem;
 use zone_server::{Answered, Transport};
 
 /// How many octets a response has room for before more is taken.
-const FIRST_BUFFER: usize = 512;
+pub const FIRST_BUFFER: usize = 512;
 
 /// Makes a database without zones in place of what a handle holds, whose memory is given back. Where there isn't enough
 /// memory, what it holds stays.

@@ -1,83 +1,53 @@
 //! What a caller that isn't Rattle keeps of a database.
-ghost use Rattle.std.specs.Prelude.{◌≡◌, Some, None, Option, MatchOption};
-ghost use Rattle.zone_database.specs.Holding.{held_code, owns_held};
+ghost use Rattle.std.specs.Coded.{coded_option};
+ghost use Rattle.std.specs.Prelude.{◌≡◌, Option};
+ghost use Rattle.call_handles.specs.Holding.{owns_held};
 ghost use Rattle.zone_database.specs.declared.database.ZoneDatabase.{ZoneDatabase as Listed};
+ghost use Rattle.zone_database.specs.contracts.database.ZoneDatabase.{the_row};
 
 use crate::database::ZoneDatabase;
-use call_handles::RawBox;
+use call_handles::{Handle, NullableBox};
 use std::alloc::Global;
 use std::marker::Model;
-use std::{mem, ptr};
 
 /// A database behind a pointer, which is null if there is none. In memory it is that pointer alone.
 #[repr(C)]
 pub struct DatabaseHandle {
     ptr: *mut u8,
     alloc: Global,
-    pub ghost held: { Option Listed } by { held_code },
+    pub ghost held: { Option Listed } by { coded_option the_row.coded },
 }
 
 impl Model for DatabaseHandle {
-    ghost also_owns = { λ h. owns_held h.alloc h.ptr h.held };
+    ghost also_owns = { λ h. owns_held the_row h.alloc h.ptr h.held };
 }
 
-impl DatabaseHandle {
-    /// A handle that holds nothing.
-    pub fn empty(alloc: Global) -> DatabaseHandle
-        ensures { result.held ≡ None }
-    {
-        let ptr = ptr::null_mut();
-        DatabaseHandle { ptr, alloc }
-    }
+impl Handle for DatabaseHandle {
+    type Content = ZoneDatabase;
 
-    /// A handle of a database.
-    fn full(database: RawBox<ZoneDatabase, Global>) -> DatabaseHandle
-        ensures { result.held ≡ Some database.content }
+    ghost held = { λ h. h.held };
+
+    fn from_raw(raw: NullableBox<ZoneDatabase>) -> DatabaseHandle
+        ensures { result.held ≡ raw.content }
     {
-        let RawBox { ptr, alloc } = database;
+        let NullableBox { ptr, alloc } = raw;
         let ptr = ptr as *mut u8;
         DatabaseHandle { ptr, alloc }
     }
 
-    /// What the handle holds.
-    fn content(self) -> Option<RawBox<ZoneDatabase, Global>>
-        ensures { MatchOption result (self.held ≡ None) (λ raw. self.held ≡ Some raw.content) }
+    fn into_raw(self) -> NullableBox<ZoneDatabase>
+        ensures { result.content ≡ self.held }
     {
         let DatabaseHandle { ptr, alloc } = self;
         let ptr = ptr as *mut ZoneDatabase;
-        if ptr.is_null() {
-            None
-        } else {
-            Some(RawBox { ptr, alloc })
-        }
-    }
-
-    /// Takes the database out.
-    pub fn take(&mut self, alloc: Global) -> Option<Box<ZoneDatabase>>
-        ensures taken { MatchOption result (self.old.held ≡ None)
-            (λ database. self.old.held ≡ Some database.value) }
-        ensures left { self.new.held ≡ None }
-    {
-        match mem::replace(self, DatabaseHandle::empty(alloc)).content() {
-            Some(raw) => Some(raw.whole()),
-            None => None,
-        }
-    }
-
-    /// Puts a database in place of what is held.
-    pub fn put(&mut self, database: Box<ZoneDatabase>)
-        ensures { self.new.held ≡ Some database.value }
-    {
-        drop(mem::replace(self, DatabaseHandle::full(RawBox::apart(database))));
+        NullableBox { ptr, alloc }
     }
 }
 
 /// Gives the memory of the database back.
 impl Drop for DatabaseHandle {
     fn drop(self) {
-        if let Some(raw) = self.content() {
-            drop(raw.whole());
-        }
+        drop(self.into_raw().whole());
     }
 }
 

@@ -1,6 +1,7 @@
 //! The calls that rows write.
 
 use crate::left::Left;
+use call_handles::Handle;
 use compared_rows::octets_of;
 use line_text::TextError;
 use std::alloc::Global;

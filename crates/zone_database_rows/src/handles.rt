@@ -3,6 +3,7 @@
 use crate::call::{Call, make, read_call};
 use crate::left::{Left, told};
 use alloc_failures::Scarcity;
+use call_handles::Handle;
 use compared_rows::Caller;
 use line_text::TextError;
 use std::alloc::{AllocError, Global};

@@ -41,23 +41,16 @@ pub(crate) fn closest_nsec_knowing<'m>(
     ensures zone { IsZone records.now }
     ensures err { IsOkUnless result ProtoError.Memory }
 {
-    if are_many(records) {
-        let place = RrKey::new(name.clone()?, RecordType::NSEC);
-        if let Some((owner, set)) = records.last_of_type_upto(&place) {
-            if says_past(set, owner, name)? {
-                return Ok(Some(set));
-            }
+    // That they are those of a zone is told where they are lent.
+    let _sets = records.as_map();
+    // In a signed zone the key right before the place that the name's own would have is mostly the one.
+    let place = RrKey::new(name.clone()?, RecordType::NSEC);
+    if let Some((owner, set)) = records.last_of_type_upto(&place) {
+        if says_past(set, owner, name)? {
+            return Ok(Some(set));
         }
     }
     closest_by_index(records, name, known, reads)
-}
-
-/// Whether so many sets are NSEC sets that the closest one to a name mostly stands right before the place that the name's own
-/// would have: then one read of the map finds it, and the index, which is large, needn't be asked.
-pub(crate) fn are_many(records: &RecordMap) -> bool
-    ensures { IsZone records.now }
-{
-    records.denial_owners(RecordType::NSEC).size_hint().0 >= records.len() / 8
 }
 
 /// The set that [`closest_nsec`] gives, found by the owners of NSEC sets alone, which are read from `name` back and

@@ -7,7 +7,7 @@ ghost use Rattle.zone_map.specs.Zones.{set_at};
 ghost use Rattle.zone_denial.specs.NsecDenial.{closest_nsec, owns_nsec_at_or_below, nsec_encloser, proved_beside, nsec_denial, IsOwnersNsec};
 ghost use Rattle.zone_denial.specs.DenialSets.{denial_sets, own_set, unless_same};
 
-use crate::closest::{are_many, closest_nsec, closest_nsec_knowing};
+use crate::closest::{closest_nsec, closest_nsec_knowing};
 use zone_map::{Reads, RecordMap};
 use zone_proto::{LowerName, ProtoError, RecordSet, RecordType, RrKey};
 
@@ -36,23 +36,12 @@ pub fn nsec_denial<'m>(
     ensures err { IsOkUnless result ProtoError.Memory }
 {
     let key = RrKey::new(name.clone()?, RecordType::NSEC);
-    if let Some(own) = own_nsec(records, &key) {
+    if let Some(own) = records.get(&key) {
         return Ok(NsecDenial::Own(own));
     }
     let closest = closest_nsec(records, name)?;
     let beside = closest_beside(records, origin, key.name, closest)?;
     Ok(NsecDenial::Closest(unless_same(beside, closest), closest))
-}
-
-/// The NSEC set under a key. Where few sets are NSEC sets the index, which is small then, is asked first.
-fn own_nsec<'m>(records: &'m RecordMap, key: &RrKey) -> Option<&'m RecordSet>
-    requires { key.now.record_type.0 ≡ NSEC }
-    ensures { option_copied result ≡ set_at records.now key.now.name NSEC }
-{
-    if !are_many(records) && !records.owns_denial_at_or_below(RecordType::NSEC, &key.name) {
-        return None;
-    }
-    records.get(key)
 }
 
 /// The set closest to what is proved beside a name: the wildcard at its closest encloser, or the origin of a name

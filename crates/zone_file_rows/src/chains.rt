@@ -1,10 +1,10 @@
 //! Whether the sets of denial of the zones that records of zone files make are chains.
 
-use crate::loading::{ATTEMPTS, STEP, loaded};
+use crate::loading::loaded;
 use crate::octets::octets_of;
 use crate::plain_hash::{FIRST_OCTET, PlainHash, UNKNOWN, WHOLE};
 use crate::zone::{error_line, read};
-use alloc_failures::Scarcity;
+use alloc_failures::until_given;
 use std::alloc::{AllocError, Global};
 use zone_builder::Loaded;
 use zone_proto::{NSEC3PARAM, Seq};
@@ -28,11 +28,7 @@ pub fn answer(alloc: Global, row: &str) -> Result<String, AllocError> {
 
 /// What a call says of a zone, with a little more memory each time.
 fn chain_answer(alloc: Global, call: &str, loaded: &Loaded) -> Result<String, AllocError> {
-    let mut scarce = Scarcity::new(alloc)?;
-    scarce.begin(ATTEMPTS)?;
-    let given = scarce.until_given(STEP, || verdict(alloc, call, loaded));
-    scarce.end();
-    match given {
+    match until_given(alloc, || verdict(alloc, call, loaded))? {
         None => format!(in alloc; "refused"),
         Some((0, verdict)) => told_verdict(alloc, "", verdict),
         Some((_, verdict)) => told_verdict(alloc, "refused, then ", verdict),

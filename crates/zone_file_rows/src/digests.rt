@@ -1,9 +1,9 @@
 //! The digests of the zones that records of zone files make.
 
-use crate::loading::{ATTEMPTS, STEP, loaded};
+use crate::loading::loaded;
 use crate::octets::octets_of;
 use crate::zone::{error_line, read};
-use alloc_failures::Scarcity;
+use alloc_failures::until_given;
 use std::alloc::{AllocError, Global};
 use std::fmt::Write;
 use zone_builder::Loaded;
@@ -38,11 +38,7 @@ fn digest_answer(
     algorithm: DigestAlgorithm,
     loaded: &Loaded,
 ) -> Result<String, AllocError> {
-    let mut scarce = Scarcity::new(alloc)?;
-    scarce.begin(ATTEMPTS)?;
-    let given = scarce.until_given(STEP, || digest(alloc, algorithm, loaded));
-    scarce.end();
-    match given {
+    match until_given(alloc, || digest(alloc, algorithm, loaded))? {
         None => format!(in alloc; "refused"),
         Some((0, digest)) => told(alloc, "", digest.as_slice()),
         Some((_, digest)) => told(alloc, "refused, then ", digest.as_slice()),

@@ -2,19 +2,11 @@
 
 use crate::octets::octets_of;
 use crate::zone::{error_line, read};
-use alloc_failures::Scarcity;
+use alloc_failures::scarce_answer;
 use std::alloc::{AllocError, Global};
 use zone_builder::{GivenRecord, LoadFault, Loaded, load};
 use zone_file::PlacedRecord;
 use zone_proto::{DNSClass, Name, ProtoError};
-
-/// How much more memory a call gets each time, in octets, and how often it is made at most.
-pub const STEP: usize = 48;
-
-pub const ATTEMPTS: usize = 1_000;
-
-/// The class of CHAOS (RFC 1035 section 3.2.4).
-const CHAOS: DNSClass = DNSClass(3);
 
 /// The answer to a row, which is a call, an origin and a zone file: `load` tells how many sets the zone has that its
 /// records make, and its warnings, or why there is none; `chaos` the same once the last record is of that class;
@@ -27,7 +19,7 @@ pub fn answer(alloc: Global, row: &str) -> Result<String, AllocError> {
         Ok(mut records) => {
             if call == "chaos" {
                 if let Some(last) = records.last_mut() {
-                    last.given.dns_class = CHAOS;
+                    last.given.dns_class = DNSClass::CH;
                 }
             }
             call_answer(alloc, call, origin, records.as_slice())
@@ -44,7 +36,7 @@ fn call_answer(
     records: &[PlacedRecord],
 ) -> Result<String, AllocError> {
     match call {
-        "scarce" => scarce_answer(alloc, origin, records),
+        "scarce" => scarce_answer(alloc, || outcome_of(alloc, origin, records)),
         _ => load_answer(alloc, loaded(alloc, origin, records)),
     }
 }
@@ -95,29 +87,11 @@ fn told_zone(alloc: Global, loaded: &Loaded) -> Result<String, AllocError> {
     Ok(told)
 }
 
-/// Whether memory was refused to the making of a zone, and then one was made.
-fn scarce_answer(
-    alloc: Global,
-    origin: &str,
-    records: &[PlacedRecord],
-) -> Result<String, AllocError> {
-    let mut scarce = Scarcity::new(alloc)?;
-    scarce.begin(ATTEMPTS)?;
-    let given = scarce.until_given(STEP, || is_loaded(alloc, origin, records));
-    scarce.end();
-    match given {
-        None => format!(in alloc; "refused"),
-        Some((0, _)) => format!(in alloc; "never refused"),
-        Some((_, true)) => format!(in alloc; "refused, then loaded"),
-        Some((_, false)) => format!(in alloc; "refused, then not loaded"),
-    }
-}
-
 /// Whether a zone is made; none if memory was refused.
-fn is_loaded(alloc: Global, origin: &str, records: &[PlacedRecord]) -> Option<bool> {
+fn outcome_of(alloc: Global, origin: &str, records: &[PlacedRecord]) -> Option<&'static str> {
     match loaded(alloc, origin, records) {
-        Ok(_) => Some(true),
+        Ok(_) => Some("loaded"),
         Err(LoadFault::Memory) => None,
-        Err(_) => Some(false),
+        Err(_) => Some("not loaded"),
     }
 }

@@ -1,9 +1,9 @@
 //! What is found of the zones that records of zone files make before they are published.
 
-use crate::loading::{ATTEMPTS, STEP, loaded};
+use crate::loading::loaded;
 use crate::octets::octets_of;
 use crate::zone::{error_line, read};
-use alloc_failures::Scarcity;
+use alloc_failures::until_given;
 use std::alloc::{AllocError, Global};
 use std::fmt::Write;
 use zone_builder::Loaded;
@@ -33,11 +33,7 @@ pub fn answer(alloc: Global, row: &str) -> Result<String, AllocError> {
 
 /// What is found of a zone, with a little more memory each time.
 fn found_answer(alloc: Global, period: Period, loaded: &Loaded) -> Result<String, AllocError> {
-    let mut scarce = Scarcity::new(alloc)?;
-    scarce.begin(ATTEMPTS)?;
-    let given = scarce.until_given(STEP, || found(alloc, period, loaded));
-    scarce.end();
-    match given {
+    match until_given(alloc, || found(alloc, period, loaded))? {
         None => format!(in alloc; "refused"),
         Some((0, found)) => told(alloc, "", found.as_slice()),
         Some((_, found)) => told(alloc, "refused, then ", found.as_slice()),

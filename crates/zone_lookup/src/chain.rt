@@ -11,8 +11,8 @@ use lookup_types::{LookupError, LookupOptions};
 use zone_map::Searches;
 use zone_proto::{LowerName, ProtoError, RData, RecordSet, RecordType, Signer};
 
-// How many sets a chain has at most.
-const MAX_CHAIN: usize = 8;
+/// How many names a chain of aliases has at most, and so how many sets.
+pub const MAX_CHAIN: usize = 8;
 
 impl<S: Signer> InnerInMemory<S> {
     /// The chain of sets from `first`, the set that was found for `name`, along CNAME targets (RFC 1034 section 3.6.2):

@@ -21,7 +21,7 @@ mod zone_error;
 #[doc(hidden)]
 pub use additionals::{next_name, run_target};
 #[doc(hidden)]
-pub use chain::{cname_target, into_sets};
+pub use chain::{MAX_CHAIN, cname_target, into_sets};
 #[doc(hidden)]
 pub use flattening::{flattened, stands_for_addresses};
 pub use found::{Found, Outcome};

@@ -29,6 +29,7 @@ pub mod SetEquality
 pub mod SetInside
 pub mod Insertion
 pub mod Stepping
+pub mod Serials
 pub mod Signing
 pub mod Base32
 pub mod HashedOwners

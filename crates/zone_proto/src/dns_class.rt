@@ -14,6 +14,12 @@ impl DNSClass {
 
     /// Chaos.
     pub const CH: DNSClass = DNSClass(3);
+
+    /// In an update: there is no such record, or one goes (RFC 2136 sections 2.4 and 2.5).
+    pub const NONE: DNSClass = DNSClass(254);
+
+    /// In a query any class; in an update any records (RFC 2136 sections 2.4 and 2.5).
+    pub const ANY: DNSClass = DNSClass(255);
 }
 
 /// `IN`, `CH`, or `CLASS` and the number (RFC 3597 section 5).

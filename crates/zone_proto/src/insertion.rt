@@ -1,12 +1,13 @@
 //! How a record is put among the records of a set.
 ghost use Rattle.std.specs.Prelude.{◌≡◌, ◌++◌, ◌∷◌, []};
-ghost use Rattle.zone_proto.specs.Sets.{soa_serial, first_serial, is_single, stores};
+ghost use Rattle.zone_proto.specs.Sets.{is_single, stores};
 ghost use Rattle.zone_proto.specs.Insertion.{is_refused, records_with};
 ghost use Rattle.zone_proto.specs.Results.{IsChange};
 
 use crate::error::ProtoError;
 use crate::rdata::RData;
 use crate::record::Record;
+use crate::serials::{first_serial, soa_serial};
 use crate::type_kinds::is_single;
 
 /// Whether these data are refused beside the stored records.
@@ -20,21 +21,6 @@ pub(crate) fn is_refused(records: &[Record], new: &RData) -> bool
         };
     }
     !is_single(new.record_type()) && stores(records, new)
-}
-
-fn soa_serial(rdata: &RData) -> Option<u32>
-    ensures { result ≡ soa_serial rdata.now }
-{
-    match rdata {
-        RData::SOA(soa) => Some(soa.serial),
-        _ => None,
-    }
-}
-
-fn first_serial(records: &[Record]) -> Option<u32>
-    ensures { result ≡ first_serial records.now }
-{
-    soa_serial(&records.first()?.rdata)
 }
 
 fn stores(records: &[Record], new: &RData) -> bool

@@ -80,6 +80,12 @@ impl RecordType {
     /// The parameters of the hashes (RFC 5155 section 4).
     pub const NSEC3PARAM: RecordType = RecordType(51);
 
+    /// What a message brings beside its sections; no type of records (RFC 6891 section 6.1).
+    pub const OPT: RecordType = RecordType(41);
+
+    /// In a query: what has changed in a zone (RFC 1995).
+    pub const IXFR: RecordType = RecordType(251);
+
     /// In a query: the whole zone (RFC 5936).
     pub const AXFR: RecordType = RecordType(252);
 

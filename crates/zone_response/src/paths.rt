@@ -13,12 +13,9 @@ use crate::node_sets::NodeSets;
 use crate::response::Sent;
 use crate::steps::{Asked, End, Next, SoFar, step};
 use lookup_types::LookupError;
-use zone_lookup::InnerInMemory;
+use zone_lookup::{InnerInMemory, MAX_CHAIN};
 use zone_map::Counter;
 use zone_proto::{LowerName, Signer};
-
-// How many names a chain has at most.
-const MAX_CHAIN: usize = 8;
 
 /// What a search has found.
 #[derive(Drop)]

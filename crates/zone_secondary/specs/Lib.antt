@@ -1,4 +1,3 @@
-pub mod Serials
 pub mod Waits
 pub mod States
 pub mod StateLaws

@@ -7,7 +7,7 @@ use Rattle.zone_secondary.specs.declared.secondary.Poll.TheVariants.{Newer, Same
 use Rattle.zone_secondary.specs.declared.secondary.Question.{Question}
 use Rattle.zone_secondary.specs.declared.secondary.Question.TheVariants.{Soa, Changes, Zone}
 use Rattle.zone_secondary.specs.declared.version.Version.{Version}
-use Rattle.zone_secondary.specs.Serials.{is_newer}
+use Rattle.zone_proto.specs.Serials.{is_newer}
 use Rattle.zone_secondary.specs.Waits.{first_wait, later, refresh_wait, retry_wait}
 
 -- the version that is held, with the moment at which it last was the primary's, if one is; and the question that goes out next, with the

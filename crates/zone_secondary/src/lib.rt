@@ -8,9 +8,7 @@
 
 pub mod laws;
 mod secondary;
-mod serial;
 mod version;
 
 pub use secondary::{Due, Poll, Question, Secondary};
-pub use serial::is_newer;
 pub use version::Version;

@@ -3,9 +3,9 @@ ghost use Rattle.std.specs.Prelude.{◌≡◌};
 ghost use Rattle.zone_secondary.specs.States.{again_later, asked, at_once, confirmed, empty, expired, failed_by, first_question, is_expired_in, is_known, is_over, is_served_in, kept, notified, poll_in, poll_of, polled, wait_to_retry};
 ghost use Rattle.zone_secondary.specs.Waits.{later};
 
-use crate::serial::is_newer;
 use crate::version::Version;
 use std::marker::Model;
+use zone_proto::is_newer;
 
 /// How long a secondary waits before it asks again where it holds no zone, in seconds.
 const FIRST_WAIT: u64 = 60;

@@ -7,8 +7,9 @@ use Rattle.zone_proto.specs.declared.record.Record.{Record}
 use Rattle.zone_proto.specs.declared.response_code.ResponseCode.{ResponseCode}
 use Rattle.zone_proto.specs.declared.response_code.ResponseCode.TheVariants as code
 use Rattle.zone_proto.specs.Names.{Name, lower, name_eq}
+use Rattle.zone_proto.specs.Serials.{is_newer}
 use Rattle.zone_proto.specs.Sets.{RRset, first_serial, soa_serial}
-use Rattle.zone_proto.specs.Types.{AXFR, IN, SOA}
+use Rattle.zone_proto.specs.Types.{AXFR, IN, IXFR, SOA}
 use Rattle.message_reading.specs.declared.header.Header.{Header}
 use Rattle.message_reading.specs.declared.query.Query.{Query as ReadQuery}
 use Rattle.message_reading.specs.Messages.{Parts, first_authority_of, message_of}
@@ -160,9 +161,6 @@ zone_asked zs ps q = if q.question.query_class.0 == IN then zone_at zs ps (lower
 
 -- ---- a query for a zone's changes
 
-abbrev pub IXFR : ℕ
-IXFR = 251
-
 -- the serial that the client has: that of the SOA with which the authority section of its query begins (RFC 1995 section 3)
 abbrev pub client_serial : List ℕ → Option ℕ
 client_serial message = first_authority_of message >>= λ first. soa_serial first.rdata
@@ -170,11 +168,6 @@ client_serial message = first_authority_of message >>= λ first. soa_serial firs
 -- the serial of an SOA
 abbrev pub serial_of : RRset → ℕ
 serial_of soa = unwrap_or (first_serial soa.records) 0
-
--- a serial is less than another: serials go on from 0 behind the greatest (RFC 1982 section 3.2)
-abbrev pub is_older : ℕ → ℕ → Bool
-is_older theirs ours =
-    (nat_lt theirs ours && nat_lt (ours - theirs) 2147483648) || (nat_lt ours theirs && nat_lt 2147483648 (theirs - ours))
 
 -- ---- what a query for a zone is answered with
 
@@ -197,7 +190,7 @@ is_stream (transports.Udp limit) = false
 -- the SOA alone, by which a client that asks over UDP sees whether it has to ask over TCP (RFC 1995 sections 2 and 4).
 abbrev pub changes_reply : Transport → Option ℕ → RRset → Sets → Reply
 changes_reply t None soa m = by_code code.FormErr
-changes_reply t (Some theirs) soa m = if is_stream t && is_older theirs (serial_of soa) then by_zone soa m else by_soa soa
+changes_reply t (Some theirs) soa m = if is_stream t && is_newer (serial_of soa) theirs then by_zone soa m else by_soa soa
 
 -- a zone without SOA has failed
 abbrev pub allowed_reply : Transport → List ℕ → ReadQuery → Sets → Option RRset → Reply

@@ -5,7 +5,7 @@ ghost use Rattle.zone_server.specs.Answers.{asked_of, bad_version, IsAnswer, IsA
 ghost use Rattle.zone_server.specs.BareHeaders.{HasOpcode, IsBareHeader};
 ghost use Rattle.zone_server.specs.Limits.{limit_for};
 
-use crate::bare_header::write_bare_header;
+use crate::bare_header::{MALFORMED, write_bare_header};
 use crate::sending::{send, send_code};
 use crate::transport::{Transport, limit_for};
 use crate::zones::{ServedZones, zone_for};
@@ -14,9 +14,6 @@ use message_reading::{Header, Query, ReadError, read_query};
 use std::alloc::{AllocError, Global};
 use zone_proto::{LowerName, ResponseCode};
 use zone_response::{Question, respond};
-
-/// FORMERR (RFC 1035 section 4.1.1).
-const MALFORMED: u8 = 1;
 
 /// NOTIMP (RFC 1035 section 4.1.1).
 const NOT_IMPLEMENTED: u8 = 4;

@@ -5,6 +5,9 @@ ghost use Rattle.zone_server.specs.BareHeaders.{bare_text, IsBareHeader};
 use message_reading::Header;
 use std::alloc::AllocError;
 
+/// FORMERR, the code of the response to what isn't of the form of a query (RFC 1035 section 4.1.1).
+pub const MALFORMED: u8 = 1;
+
 /// Writes a response of a header alone, in place of the octets of `out`: what could not be read has no question that could be
 /// repeated. Fails only for lack of memory.
 pub fn write_bare_header(out: &mut Vec<u8>, header: Header, code: u8) -> Result<(), AllocError>

@@ -18,13 +18,15 @@ pub enum Mode {
 
 /// A message, and how it came.
 #[derive(Clone, Copy)]
-pub(crate) struct Frame<'o> {
-    pub(crate) transport: Transport,
-    pub(crate) message: &'o [u8],
+pub struct Frame<'o> {
+    /// How it came, and so how long its answer may be.
+    pub transport: Transport,
+    /// Its octets, without their length.
+    pub message: &'o [u8],
 }
 
-/// The frame at the start of octets, and what follows it; none if it isn't whole.
-pub(crate) fn frame_of(mode: Mode, octets: &[u8]) -> Option<(Frame<'_>, &[u8])>
+/// The frame at the start of octets, and what follows it; none if it isn't whole. Doesn't allocate.
+pub fn frame_of(mode: Mode, octets: &[u8]) -> Option<(Frame<'_>, &[u8])>
     ensures { option_map (λ x. (framed_of x.0, x.1.now)) result ≡ frame_of mode octets.now }
 {
     match mode {

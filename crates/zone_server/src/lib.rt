@@ -23,14 +23,14 @@ mod waiting;
 mod zones;
 
 pub use answering::{Answered, answer, answer_from, answer_read_from};
-pub use bare_header::write_bare_header;
-pub use frames::Mode;
+pub use bare_header::{MALFORMED, write_bare_header};
+pub use frames::{Frame, Mode, frame_of};
 pub use listed_zones::ListedZones;
 pub use sending::{send_code, send_soa};
 pub use server::Server;
-pub use serving::serve_frames;
+pub use serving::{READ_OCTETS, serve_frames};
 pub use transfer_policy::TransferPolicy;
-pub use transfer_reply::{TransferReply, asks_for_transfer, reply_to, soa_key};
+pub use transfer_reply::{TransferReply, asks_for_transfer, client_serial, reply_to, soa_key};
 pub use transport::{DATAGRAM_SIZE, Transport, limit_for, limit_without_opt};
 pub use waiting::Stop;
 pub use zones::ServedZones;

@@ -17,8 +17,8 @@ use std::alloc::Global;
 use std::io::{ErrorKind, Read, Write};
 use zone_proto::{Nsec3Hash, Signer};
 
-/// How many octets are read at once.
-const CHUNK: usize = 65_536;
+/// How many octets of an input are read at once.
+pub const READ_OCTETS: usize = 65_536;
 
 /// Answers the frames of an input from the zones of a server, up to the end of the input. A message without an answer has no
 /// frame in the output, and a last frame that isn't complete is ignored.
@@ -57,7 +57,7 @@ pub fn serve_frames<S: Signer, H: Nsec3Hash, R: Read, W: Write>(
         (R.remaining input.old) (R.remaining input.new)
         (W.contents output.old) (W.contents output.new)) }
 {
-    let mut chunk = vec![in alloc; 0u8; CHUNK]?;
+    let mut chunk = vec![in alloc; 0u8; READ_OCTETS]?;
     serve_in_chunks(alloc, server, mode, input, output, chunk.as_mut_slice())
 }
 

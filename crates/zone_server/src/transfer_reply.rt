@@ -1,11 +1,10 @@
 //! What a query for a whole zone, or for a zone's changes, is answered with (RFC 5936, RFC 1995).
 ghost use Rattle.std.specs.Prelude.{◌≡◌, IfOk, map, option_map, slice_index_or};
 ghost use Rattle.zone_proto.specs.Keys.{key as key_at};
-ghost use Rattle.zone_proto.specs.Sets.{first_serial, soa_serial};
 ghost use Rattle.zone_proto.specs.Types.{SOA};
 ghost use Rattle.zone_map.specs.Zones.{set_at};
 ghost use Rattle.zone_response.specs.Queries.{zone_of};
-ghost use Rattle.zone_server.specs.Transfers.{asks_for_transfer, client_serial, is_older, is_stream, policy_reply, allowed_reply, reply_to, serial_of, zone_at, zone_asked, changes_reply};
+ghost use Rattle.zone_server.specs.Transfers.{asks_for_transfer, client_serial, is_stream, policy_reply, allowed_reply, reply_to, serial_of, zone_at, zone_asked, changes_reply};
 ghost use Rattle.zone_server.specs.TransferSteps.{reply_kept, HasSmallCode};
 
 use crate::listed_zones::ListedZones;
@@ -15,19 +14,13 @@ use message_reading::{Query, read_first_authority};
 use std::alloc::{AllocError, Global};
 use zone_map::SetMap;
 use zone_proto::{
-    DNSClass, LowerName, Nsec3Hash, ProtoError, RData, Record, RecordSet, RecordType, ResponseCode,
-    RrKey, Signer,
+    DNSClass, LowerName, Nsec3Hash, ProtoError, RecordSet, RecordType, ResponseCode, RrKey, Signer,
+    first_serial, is_newer, soa_serial,
 };
 use zone_response::ServedZone;
 
-/// The type of a query for a zone's changes (RFC 1995 section 3).
-const IXFR: RecordType = RecordType(251);
-
 /// NOTAUTH: the server isn't authoritative for such a zone (RFC 5936 section 2.2.1).
 const NOT_AUTHORITATIVE: ResponseCode = ResponseCode::Other(9);
-
-/// From how far ahead on a serial isn't the greater one any more (RFC 1982 section 3.2).
-const HALF_OF_SERIALS: u32 = 2_147_483_648;
 
 /// What a query for a transfer is answered with.
 #[derive(Clone, Copy)]
@@ -46,7 +39,7 @@ pub fn asks_for_transfer(transport: Transport, query: &Query) -> bool
     ensures { result ≡ asks_for_transfer transport query.now }
 {
     let query_type = query.question.query_type;
-    query_type == IXFR || (query_type == RecordType::AXFR && is_stream(transport))
+    query_type == RecordType::IXFR || (query_type == RecordType::AXFR && is_stream(transport))
 }
 
 /// Whether messages may follow one another: over TCP.
@@ -172,7 +165,7 @@ fn changes_reply<'z>(
 {
     match serial {
         None => TransferReply::Code(ResponseCode::FormErr),
-        Some(theirs) if is_stream(transport) && is_older(theirs, serial_of(soa)) => {
+        Some(theirs) if is_stream(transport) && is_newer(serial_of(soa), theirs) => {
             TransferReply::Whole(soa, sets)
         }
         Some(_) => TransferReply::StartOfAuthority(soa),
@@ -180,12 +173,12 @@ fn changes_reply<'z>(
 }
 
 /// The serial of the SOA with which the authority section of a query for changes begins (RFC 1995 section 3); none if
-/// it begins with another record, or with none. Records behind that one are not read.
-fn client_serial(alloc: Global, message: &[u8]) -> Result<Option<u32>, AllocError>
+/// it begins with another record, or with none. Records behind that one are not read. Refused for lack of memory alone.
+pub fn client_serial(alloc: Global, message: &[u8]) -> Result<Option<u32>, AllocError>
     ensures { IfOk result (λ serial. serial ≡ client_serial message.now) }
 {
     match read_first_authority(alloc, message) {
-        Ok(Some(record)) => Ok(serial_in(&record)),
+        Ok(Some(record)) => Ok(soa_serial(&record.rdata)),
         Ok(None) => Ok(None),
         Err(_) => Err(AllocError),
     }
@@ -196,32 +189,4 @@ fn serial_of(soa: &RecordSet) -> u32
     ensures { result ≡ serial_of soa.now }
 {
     first_serial(soa.as_slice()).unwrap_or(0)
-}
-
-/// The serial of the SOA that records begin with.
-fn first_serial(records: &[Record]) -> Option<u32>
-    ensures { result ≡ first_serial records.now }
-{
-    serial_in(records.first()?)
-}
-
-/// The serial of a record, if it is an SOA.
-fn serial_in(item: &Record) -> Option<u32>
-    ensures { result ≡ soa_serial item.now.rdata }
-{
-    match &item.rdata {
-        RData::SOA(soa) => Some(soa.serial),
-        _ => None,
-    }
-}
-
-/// Whether a serial is less than another (RFC 1982 section 3.2).
-fn is_older(theirs: u32, ours: u32) -> bool
-    ensures { result ≡ is_older theirs ours }
-{
-    if theirs < ours {
-        ours - theirs < HALF_OF_SERIALS
-    } else {
-        theirs - ours > HALF_OF_SERIALS
-    }
 }

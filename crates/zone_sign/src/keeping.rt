@@ -11,10 +11,7 @@ use std::io::Write;
 use zone_keeping::{Span, keep, push_standing, push_standing_end};
 use zone_map::RecordMap;
 use zone_planning::{Plan, read_signatures};
-use zone_proto::{RData, RrKey, Seq};
-
-/// From how far ahead on a serial isn't the greater one any more (RFC 1982 section 3.2).
-const HALF: u32 = 1 << 31;
+use zone_proto::{RrKey, Seq, first_serial, is_newer};
 
 /// A plan with the signatures that stay, of the old zone that is named, if one is. None if that is refused, which is reported.
 pub fn keep_standing<E: Write>(
@@ -32,7 +29,7 @@ pub fn keep_standing<E: Write>(
     };
     let wrong = read_wrong(rt, wanted, fault)?;
     let old = read_signed_zone(rt, file, &apex.name, wrong.as_slice(), fault)?;
-    if !is_later(
+    if !is_newer(
         serial_at(&planned.records, apex),
         serial_at(&old.records, apex),
     ) {
@@ -79,19 +76,7 @@ fn serial_at(records: &RecordMap, apex: &RrKey) -> u32 {
     let Some(set) = records.get(apex) else {
         return 0;
     };
-    let Some(record) = set.as_slice().first() else {
-        return 0;
-    };
-    match &record.rdata {
-        RData::SOA(soa) => soa.serial,
-        _ => 0,
-    }
-}
-
-/// Whether a serial is greater than another (RFC 1982 section 3.2).
-fn is_later(serial: u32, other: u32) -> bool {
-    let ahead = serial.wrapping_sub(other);
-    ahead != 0 && ahead < HALF
+    first_serial(set.as_slice()).unwrap_or(0)
 }
 
 /// Writes the signatures that stay, with what they are made of, and after them the end.

@@ -14,6 +14,9 @@ use std::io::{ErrorKind, Read};
 use zone_file::{Context, InputError, PlacedRecord, ZoneFault, read_zone};
 use zone_proto::Name;
 
+/// How many faults of a zone file are told where no other number is wanted.
+pub const MOST_TOLD: usize = 20;
+
 /// Why no files are read.
 #[derive(Debug)]
 pub enum FilesError {

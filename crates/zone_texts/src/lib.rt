@@ -19,7 +19,7 @@ mod state;
 mod texts;
 
 pub use fault::{FaultLine, FaultLines, FileFault, What};
-pub use files::{FilesError, read_files};
+pub use files::{FilesError, MOST_TOLD, read_files};
 pub use names::name_beside;
 pub use sources::{Chain, FilePlace, Sources, ToldLine};
 pub use state::Reading;

@@ -8,7 +8,7 @@ use Rattle.zone_proto.specs.declared.rdata.RData.{RData}
 use Rattle.zone_proto.specs.declared.rdata.RData.TheVariants as V
 use Rattle.zone_proto.specs.declared.record.Record.{Record}
 use Rattle.zone_map.specs.Zones.{Sets}
-use Rattle.zone_update.specs.Processing.{is_newer}
+use Rattle.zone_proto.specs.Serials.{is_newer}
 use Rattle.zone_update.specs.Demands.{demands_of}
 use Rattle.zone_update.specs.Changes.{changes_of}
 use Rattle.zone_update.specs.Updates.{run, updated}

@@ -3,6 +3,7 @@ use Rattle.std.specs.Prelude.{ℕ, ◌-◌, Bool, false, not, ◌==◌, ◌&&◌
 use Rattle.std.specs.Ordering.{eq_by_cmp}
 use Rattle.zone_proto.specs.Data.{same_data, type_of}
 use Rattle.zone_proto.specs.Names.{Name, lower, name_cmp}
+use Rattle.zone_proto.specs.Serials.{is_newer}
 use Rattle.zone_proto.specs.Sets.{RRset, empty_set, first_serial, inserted, is_single, soa_serial, stores}
 use Rattle.zone_proto.specs.Types.{NS, SOA, is_derived}
 use Rattle.zone_proto.specs.declared.rdata.RData.{RData}
@@ -36,11 +37,7 @@ put_or_without m n t s = if length s.records == 0 then without m n t else put m 
 
 -- ---- serials (section 3.6)
 
--- a serial is greater than another: serials go on from 0 behind the greatest (RFC 1982 section 3.2)
-abbrev pub is_newer : ℕ → ℕ → Bool
-is_newer new old =
-    (nat_lt old new && nat_lt (new - old) 2147483648) || (nat_lt new old && nat_lt 2147483648 (old - new))
-
+-- both are serials, and the first isn't greater (RFC 1982 section 3.2)
 abbrev pub is_not_newer : Option ℕ → Option ℕ → Bool
 is_not_newer (Some new) (Some old) = not (is_newer new old)
 is_not_newer _ _ = false

@@ -1,17 +1,15 @@
 -- What the next name of a denial says of the names below the denied one
 use Rattle.std.proofs.Common.{◌≡◌, ℕ, Bool, true, false, ◌&&◌, List, [], ◌∷◌, ◌++◌, drop, refl, sym, ap, ◌∙◌, subst, ◌⊎◌, inl, inr, Less}
-use Rattle.std.specs.Prelude.{filter, is_some, Option, Some, None}
-use Rattle.std.specs.List.{list_any}
+use Rattle.std.specs.Prelude.{filter}
 use Rattle.std.proofs.lemmas.List.{append_assoc}
 use Rattle.zone_proto.specs.Names.{Name, name_cmp, is_above, is_at_or_above, IsAbove, IsAtOrAbove}
 use Rattle.zone_proto.specs.Order.{is_upto}
-use Rattle.zone_proto.specs.Sets.{RRset}
 use Rattle.zone_proto.specs.Types.{NS, NSEC}
 use Rattle.zone_proto.proofs.Members.{In, In-filter, In-from_filter, In-from_any, none_passes, and_left, and_right}
 use Rattle.zone_proto.proofs.Names.NameTree.{above_test, above_is_less, is_at_or_above_sound, is_at_or_above_complete}
 use Rattle.zone_proto.proofs.Ordering.Orders.{IsTop, has_greatest, irrefl, asym, upto_cases, upto_before, upto_from_not_before}
 use Rattle.zone_proto.proofs.Names.Tree.{name_order, above_cases, together}
-use Rattle.zone_map.specs.Zones.{Sets, set_at, owns, owners, types_at, names_of, owns_at_or_below}
+use Rattle.zone_map.specs.Zones.{Sets, owns, owners, types_at, names_of, owns_at_or_below}
 use Rattle.zone_map.proofs.Owned.{owner_in, owner_owned, name_in, name_owned, type_in}
 use Rattle.zone_denial.specs.Authority.{is_below_cut}
 use Rattle.zone_denial.specs.NsecCircle.{nsec_next}
@@ -28,15 +26,6 @@ pub no_next_below : NoNextBelowAbsent
 no_next_below origin m h x inside none =
     let c = closest_is origin m h x inside in
     (nsec_next origin m c.0, last_covers origin m h x c.0 c.2 c.1 (off_circle m x none), owner_elsewhere m x (nsec_next origin m c.0) NSEC none (next_owned origin m h c.0))
-
--- ---- where no owner of NSEC is at or below a name, the name owns none itself
-
-pub none_owned : (m : Sets) (n : Name) → list_any (is_at_or_above n) (owners m NSEC) ≡ false → None ≡ set_at m n NSEC
-none_owned m n none = by (set_at m n NSEC) refl
-  where
-    by : (s : Option RRset) → set_at m n NSEC ≡ s → None ≡ s
-    by None e = refl
-    by (Some s) e = absurd (none_passes (is_at_or_above n) n (owners m NSEC) none (owner_in m n NSEC (ap is_some e)) (is_at_or_above_complete n n ([], refl)))
 
 -- ---- names above one another
 

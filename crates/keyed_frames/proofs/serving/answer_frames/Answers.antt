@@ -2,7 +2,7 @@ use Rattle.std.proofs.Common.{sym}
 use Rattle.zone_server.proofs.FrameLaws.{frame_less}
 use Rattle.zone_server.proofs.WrittenFronts.{on_err}
 use Rattle.zone_database.specs.Databases.{zones_in}
-use Rattle.keyed_frames.specs.Serving.{framed_of}
+use Rattle.zone_server.specs.Frames.{framed_of}
 use Rattle.keyed_frames.specs.Stopping.{StopsWithin}
 use Rattle.keyed_frames.proofs.ServedFrames.{frame_taken, none_taken_yet}
 use Rattle.keyed_frames.proofs.StoppedFrames.{frame_stops}

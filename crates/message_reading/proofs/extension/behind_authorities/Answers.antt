@@ -9,15 +9,15 @@ returns-in_err-frame c =
     ap (option_map (λ x. x.now)) c.from_residual.ensures
     ∙ authorities_none c.args.count c.loop.counter c.loop.rest.now c.loop-test.true c.in_err-frame.ensures ∙ c.loop.invariant
 
-pub returns-then-frame-eq-OPT : goal.returns-then-frame-eq-OPT
-returns-then-frame-eq-OPT c =
+pub returns-then-frame : goal.returns-then-frame
+returns-then-frame c =
     authorities_refused c.args.count c.loop.counter _ c.loop.rest.now c.loop-test.true c.in_ok-frame.ensures
-    (eq-eqb c.in_ok-frame.frame.record_type 41 c.if-frame-eq-OPT.true) ∙ c.loop.invariant
+    (eq-eqb c.in_ok-frame.frame.record_type 41 c.if-frame.true) ∙ c.loop.invariant
 
 pub loop-preserved : goal.loop-preserved
 loop-preserved c =
     authorities_more c.args.count c.loop.counter _ c.loop.rest.now c.loop-test.true c.in_ok-frame.ensures
-    (ne_eqb c.in_ok-frame.frame.record_type 41 c.if-frame-eq-OPT.false) ∙ c.loop.invariant
+    (ne_eqb c.in_ok-frame.frame.record_type 41 c.if-frame.false) ∙ c.loop.invariant
 
 pub returns : goal.returns
 returns c = authorities_out (c.args.count - c.loop.counter) c.loop.rest.now (omega (arith, c.loop-test.false)) ∙ c.loop.invariant

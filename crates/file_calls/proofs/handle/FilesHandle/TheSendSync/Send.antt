@@ -1,31 +1,16 @@
 -- What a handle holds says the same to every thread.
-use mir.Raw.{raw}
-use base.Shift.{Keyless}
-use base.Fraction.{full_share}
-use denote.Memory.{lone}
-use denote.RawPtr.{Ptr, block_ptr, null_ptr}
-use denote.Param.Send.{IsSend, owning_send, part_keyless, struct_send, sendable}
+use denote.Param.Send.{IsSend, owning_send, struct_send, sendable}
 use denote.Builtin.{RawPtr}
 use denote.Struct.Struct.{exits_of}
 use denote.Struct.Owning.{shape, fields, to}
 use Rattle.std_alloc.proofs.SendSync.{quiet}
-use Rattle.std.proofs.Crossing.{frees}
 use Rattle.std.proofs.alloc.Global.TheSendSync as global
-use Rattle.std.specs.Prelude.{Option, Some, None}
-use Rattle.std.specs.declared.alloc.Global.{Global}
+use Rattle.call_handles.proofs.Sending.{held_keyless}
 use Rattle.included_texts.proofs.kept.KeptTexts.TheSendSync.{the_send}
-use Rattle.file_calls.specs.Holding.{owns_held}
-use Rattle.included_texts.specs.declared.kept.KeptTexts.{KeptTexts}
 use Rattle.included_texts.specs.contracts.kept.KeptTexts as kept_texts
 use Rattle.file_calls.specs.contracts.handle.FilesHandle.{the_row, the_type}
 
-held_keyless : (a : Global) (p : Ptr) (held : Option KeptTexts) → Keyless (owns_held a p held)
-held_keyless a null_ptr None = tt
-held_keyless a null_ptr (Some x) = tt
-held_keyless a (block_ptr b o) None = tt
-held_keyless a (block_ptr b o) (Some x) = (part_keyless kept_texts.the_row the_send full_share x b o, frees.frees a (raw (lone kept_texts.the_row.mir)) (block_ptr b o))
-
 pub send : IsSend the_row
 send = let ps : IsSend RawPtr = search sendable in
-    owning_send the_type (ps, (global.the_field_send, tt)) (λ d. held_keyless d.alloc d.ptr d.held)
+    owning_send the_type (ps, (global.the_field_send, tt)) (λ d. held_keyless kept_texts.the_row the_send d.alloc d.ptr d.held)
     (λ k. quiet (to the_type) (exits_of k (fields the_type)) ((struct_send (shape the_type) (ps, (global.the_field_send, tt))).leaving k))
