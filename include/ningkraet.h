@@ -80,7 +80,7 @@ enum {
     NK_NO_ZONE = 7,       /* there is no zone with this origin */
     NK_ZONE_EXISTS = 8,   /* there is a zone with this origin already */
     NK_BAD_TRANSPORT = 9, /* the transport is neither NK_UDP nor NK_TCP */
-    NK_NO_PLAN = 20,      /* there is no plan: none was begun, or it was finished or freed */
+    NK_NO_PLAN = 20,      /* there is no plan: none was begun, or it was finished or freed; nor an update that was begun */
     NK_BAD_KEYS = 21,     /* the keys aren't DNSKEY data, one can't be a zone's key, or there are more than 256 */
     NK_MISSING_KEYS = 22, /* there is no key, or one by whose algorithm not each set is signed (RFC 4035 section 2.2) */
     NK_BAD_MOMENTS = 23,  /* signatures can't hold from the one moment to the other (RFC 4034 section 3.1.5) */
@@ -88,7 +88,7 @@ enum {
     NK_BAD_ZONE = 25,     /* what the zone has can't be signed: a CNAME at its origin, or records below a DNAME */
     NK_LONG_NAMES = 26,   /* the origin is too long for names that are hashed */
     NK_NO_MORE = 27,      /* everything that is to be signed was handed out, or all messages of a transfer */
-    NK_ZONE_CHANGED = 28, /* the zone has another serial than the one that was planned */
+    NK_ZONE_CHANGED = 28, /* the zone has another serial than the one that was planned or updated, or isn't there */
     NK_TOO_FEW = 29,      /* there are fewer signatures than the plan wants */
     NK_TOO_MANY = 30,     /* there are more */
     NK_BAD_SIGNATURE = 31, /* a signature isn't as long as those of its key */
@@ -102,7 +102,9 @@ enum {
     NK_BAD_SCOPE = 39,    /* the scope of a rule is none of NK_NAME to NK_OWN_SUBDOMAIN */
     NK_WANTS_FILES = 40,  /* files are included of which there is no text yet: nk_files_next hands out their names */
     NK_NO_FILE = 41,      /* no file is wanted */
-    NK_BAD_FILE_NAME = 42 /* the name of a file isn't UTF-8 */
+    NK_BAD_FILE_NAME = 42, /* the name of a file isn't UTF-8 */
+    NK_NO_ENTRY = 43,     /* a whole frame of the journal has no entry: the file is no journal */
+    NK_MISFIT = 44        /* an entry of the journal doesn't fit the zone before it: the journal is that of another zone, or of another file of it */
 };
 
 /* How a query came; and how many octets a response has at most over each. */
@@ -142,6 +144,13 @@ typedef struct nk_updates {
 } nk_updates;
 
 #define NK_UPDATES_NONE {0}
+
+/* An update that was begun, or none. The rules for an nk_zones hold for it too. */
+typedef struct nk_update {
+    void *kept;
+} nk_update;
+
+#define NK_UPDATE_NONE {0}
 
 /* Which names a rule is about: its own, that and all below it, that of the key, or that and all below it. */
 enum { NK_NAME = 0, NK_SUBDOMAIN = 1, NK_OWN_NAME = 2, NK_OWN_SUBDOMAIN = 3 };
@@ -412,10 +421,9 @@ void nk_updates_free(nk_updates *updates);
  *    (section 3.6), and `changed` is 1. If it changes nothing, or with any other response, no zone has changed, and `changed` is 0; so it is with
  *    any code but NK_DONE.
  *
- * An update that changed a zone is to outlast the process before its response is sent (section 3.5): write its octets and the moment to a file. After
- * the zone was loaded again, the same calls in the same order, with the same moments, keys and rules, make the same zone. If threads answer from
- * copies of the zones, update a copy, and put that in place as after a reload ("Threads", above). nk_zones_prepare and nk_steps_note are to be called
- * again.
+ * An update that changed a zone is to outlast the process before its response is sent (section 3.5): use nk_update_begin, which has the journal of
+ * the zone. If threads answer from copies of the zones, update a copy, and put that in place as after a reload ("Threads", above).
+ * nk_zones_prepare and nk_steps_note are to be called again.
  *
  * After NK_DONE the response is in the buffer, and `written` has its length. 512 octets are always enough where a zone changes, and 1232 elsewhere,
  * unless a TSIG is refused whose message names several zones: that response repeats them. After NK_NO_ROOM `written` says how many are needed, and
@@ -424,6 +432,38 @@ void nk_updates_free(nk_updates *updates);
  * NK_DONE, NK_NO_UPDATE, NK_NO_ROOM, NK_NO_MEMORY, NK_NO_KEYS or NK_CLOSED. */
 uint32_t nk_zones_update(nk_zones *zones, nk_updates *updates, const nk_message *message, uint8_t *buffer, size_t buffer_length, size_t *written,
                          uint32_t *changed);
+
+/* The same in two calls, with a journal of the zone's own between them: a file that only grows, so that no update is lost that was answered, and none
+ * is half there, whenever the process ends.
+ *
+ *     nk_update_begin(&update, ..)     the response is in the buffer; the frame for the journal of the zone, in the room for it
+ *     append the frame to the file, and fsync it                                                    only if `frame_written` isn't 0
+ *     nk_update_commit(&update, ..)    the zone after the update has replaced the one before        only then
+ *     send the response
+ *
+ * If `frame_written` is 0, there is no update to commit: it is refused, or changes nothing, and its response can be sent. If the file can't be
+ * written, or the commit gives any code but NK_DONE, cut the file off where the frame began, and answer SERVFAIL or begin the message again: no
+ * zone has changed. What was begun before in this nk_update is freed first. Its zone is named in the message (RFC 2136 section 2.3).
+ *
+ * After NK_DONE `written` and `frame_written` have the lengths of both. After NK_NO_ROOM, if either finds no room, they say how many octets are
+ * needed; with any other code they are 0. The frame has the RRsets that changed, before and after.
+ * NK_DONE, NK_NO_UPDATE, NK_NO_ROOM, NK_NO_MEMORY, NK_NO_KEYS or NK_CLOSED. */
+uint32_t nk_update_begin(nk_update *update, nk_zones *zones, nk_updates *updates, const nk_message *message, uint8_t *buffer, size_t buffer_length,
+                         size_t *written, uint8_t *frame, size_t frame_length, size_t *frame_written);
+
+/* Puts the zone after the update in place of the one that was updated, if that is still there, which its serial tells. Whatever the code, there is no
+ * update then: one that is to be tried again is begun again.
+ * NK_DONE; NK_ZONE_CHANGED, NK_NO_PLAN, NK_NO_MEMORY or NK_CLOSED, and no zone changes. */
+uint32_t nk_update_commit(nk_update *update, nk_zones *zones);
+
+/* Frees the update that was begun, if there is one. Afterwards there is none. */
+void nk_update_free(nk_update *update);
+
+/* Puts the zone that its journal leads to in place of the zone with this origin, which was loaded from its file: that may have been written anew since
+ * the journal was begun. Frames behind the last whole one count for nothing. `intact` says how many octets the whole ones have: cut the file of the
+ * journal off there before the next frame is appended.
+ * NK_DONE, NK_NO_ZONE, NK_NO_ENTRY, NK_MISFIT, NK_BAD_NAME, NK_NO_MEMORY or NK_CLOSED; after any code but NK_DONE the zones are as they were. */
+uint32_t nk_zones_replay(nk_zones *zones, const uint8_t *origin, size_t origin_length, const uint8_t *journal, size_t journal_length, size_t *intact);
 
 /* Writes the NOTIFY that tells a secondary of the zone with this origin that it has changed (RFC 1996 section 3), to be sent to the secondary by
  * UDP. It is at the beginning of the buffer, and `written` has its length, at most 271 octets; after NK_NO_ROOM `written` says how many octets are

@@ -67,12 +67,13 @@ WORDS = {
     "&mut TransferHandle": "&mut {}",
     "&mut StepsHandle": "&mut {}",
     "&mut UpdatesHandle": "&mut {}",
+    "&mut PlannedHandle": "&mut {}",
     "&mut PlanHandle": "&mut {}",
     "&mut FilesHandle": "&mut {}",
     "&Signing": "&how",
     "&[u8]": "&text",
-    "&mut [u8]": "&mut room",
-    "&mut usize": "&mut written",
+    "&mut [u8]": "&mut {}",
+    "&mut usize": "&mut {}",
     "&mut u32": "&mut {}",
     "&ServerSettings<'_>": "&settings",
     "&ClientMessage<'_>": "&message",
@@ -90,7 +91,8 @@ fn main(rt: HostRuntime) -> std::process::ExitCode {{
     let mut files = file_calls::FilesHandle::empty(alloc);
     let (mut updates, mut changed, types) = (UpdatesHandle::empty(alloc), 0u32, [1u16]);
     let how = plan_calls::Signing {{ inception: 0, expiration: 0, jitter: 0, key_ttl: 0, denial: 0, iterations: 0, asks_parent: 0 }};
-    let (text, mut room, mut written) = ([0u8; 8], [0u8; 8], 0usize);
+    let (text, mut buffer, mut written) = ([0u8; 8], [0u8; 8], 0usize);
+    let (mut update, mut frame, mut frame_written, mut intact) = (PlannedHandle::empty(alloc), [0u8; 8], 0usize, 0usize);
     let (mut serial, mut number, mut id, mut code) = (0u32, 0u32, 0u32, 0u32);
     let settings = ServerSettings {{ nsid: &text, secrets: &text, cookies_required: 0 }};
     let message = ClientMessage {{ octets: &text, address: &text, moment: 0, limit: 512, transport: 0 }};

@@ -325,20 +325,36 @@ static int transfers(void) {
 static const uint8_t update[] = "\1\2\50\0\0\1\0\0\0\1\0\0" "\47" "a-name-of-more-than-thirty-three-octets" "\7" "example" "\0\0\6\0\1" "\3" "www" "\300\14\0\1\0\1\0\0\0\74\0\4\300\0\2\11";
 static const uint8_t update_mac[] = "\356\255\343\272\370\210\225\266\230\123\213\275\25\300\206\12\312\154\362\311\152\0\364\243\243\245\211\323\57\12\35\324";
 static nk_updates rules = NK_UPDATES_NONE;
+static uint8_t frame[4096], journal[4096];
 
 static uint32_t rule(const char *origin, const char *name, uint32_t scope, uint16_t type, uint32_t denies) {
     nk_rule one = {(const uint8_t *)origin, strlen(origin), (const uint8_t *)name, strlen(name), (const uint8_t *)origin, strlen(origin), &type, 1, scope, denies};
     return nk_updates_rule(&rules, &one);
 }
 
-static uint32_t update_zone(nk_zones *zones, int is_signed, uint64_t now, size_t space, size_t *written, uint32_t *changed) {
-    uint8_t octets[256];
+/* The octets of it, in a room for them. */
+static nk_message update_at(uint8_t *octets, int is_signed, uint64_t now) {
     size_t length = sizeof update - 1, size = is_signed ? sizeof tsig - 1 : 0;
     memcpy(octets, update, length), memcpy(octets + length, tsig, size);
     octets[11] = is_signed;
     if (is_signed) memcpy(octets + length + size - 38, update_mac, 32);
-    nk_message message = {.octets = octets, .octets_length = length + size, .moment = now};
+    return (nk_message){.octets = octets, .octets_length = length + size, .moment = now};
+}
+
+static uint32_t update_zone(nk_zones *zones, int is_signed, uint64_t now, size_t space, size_t *written, uint32_t *changed) {
+    uint8_t octets[256];
+    nk_message message = update_at(octets, is_signed, now);
     return nk_zones_update(zones, &rules, &message, room, space, written, changed);
+}
+
+static uint32_t begin_update(nk_update *begun, nk_zones *zones, uint64_t now, size_t space, size_t frames, size_t *written, size_t *framed) {
+    uint8_t octets[256];
+    nk_message message = update_at(octets, 1, now);
+    return nk_update_begin(begun, zones, &rules, &message, room, space, written, frame, frames, framed);
+}
+
+static uint32_t replay(nk_zones *zones, const char *origin, size_t length, size_t *whole) {
+    return nk_zones_replay(zones, (const uint8_t *)origin, strlen(origin), journal, length, whole);
 }
 
 static uint32_t read_rules(const char *file, size_t *written) { return nk_updates_keys(&rules, (const uint8_t *)file, strlen(file), room, sizeof room, written); }
@@ -378,6 +394,42 @@ static int updates(void) {
     IS(drop(&zones, ORIGIN) == NK_DONE && update_zone(&zones, 1, 1000, sizeof room, &written, &changed) == NK_DONE && (room[3] & 15) == 9 && !changed);
     nk_updates_free(&rules), nk_updates_free(&rules), nk_zones_free(&zones), nk_zones_free(&other);
     IS(rule(ORIGIN, "key.example", NK_NAME, 1, 0) == NK_NO_KEYS);
+    return 0;
+}
+
+/* Updates in two calls: what is written between them makes the zone anew, what comes between them overtakes, and what each failed allocation leaves. */
+static int journals(void) {
+    nk_zones zones = NK_ZONES_NONE, other = NK_ZONES_NONE;
+    nk_update one = NK_UPDATE_NONE;
+    size_t written = 9, framed = 9, whole = 9, length;
+    uint32_t number, code, changed;
+    memset(room, 85, sizeof room);
+    IS(begin_update(&one, &zones, 1000, sizeof room, sizeof frame, &written, &framed) == NK_CLOSED && !written && !framed && nk_update_commit(&one, &zones) == NK_NO_PLAN);
+    IS(replay(&zones, ORIGIN, 0, &whole) == NK_CLOSED && !whole && nk_zones_new(&zones) == NK_DONE && nk_zones_new(&other) == NK_DONE && replay(&zones, ORIGIN, 0, &whole) == NK_NO_ZONE);
+    IS(begin_update(&one, &zones, 1000, sizeof room, sizeof frame, &written, &framed) == NK_NO_KEYS && !written && !framed && is_untouched());
+    IS(read_rules(keys, &written) == NK_DONE && rule(ORIGIN, "key.example", NK_SUBDOMAIN, 255, 0) == NK_DONE && load(&zones, 0, ORIGIN, text, &written) == NK_DONE && load(&other, 0, ORIGIN, text, &written) == NK_DONE);
+    memset(room, 85, sizeof room);
+    IS(begin_update(&one, &zones, 1000, 40, sizeof frame, &written, &framed) == NK_NO_ROOM && written > 40 && framed > 40 && is_untouched() && nk_update_commit(&one, &zones) == NK_NO_PLAN);
+    IS(begin_update(&one, &zones, 1000, sizeof room, 40, &written, &framed) == NK_NO_ROOM && written > 40 && framed > 40 && is_untouched() && nk_update_commit(&one, &zones) == NK_NO_PLAN);
+    for (long nth = 1; left = nth, code = begin_update(&one, &zones, 1000, sizeof room, sizeof frame, &written, &framed), left = -1, !framed; nth++)
+        IS((code == NK_NO_MEMORY ? !written : code == NK_DONE && (room[3] & 15) == 2) && nk_update_commit(&one, &zones) == NK_NO_PLAN);   /* SERVFAIL */
+    IS(code == NK_DONE && written > 12 && !(room[3] & 15) && room[11] == 1 && serial(&zones, ORIGIN, &number) == NK_DONE && number == 7);
+    memcpy(journal, frame, length = framed);
+    for (long nth = 1; left = nth, code = nk_update_commit(&one, &zones), left = -1, code != NK_DONE; nth++)
+        IS(code == NK_NO_MEMORY && serial(&zones, ORIGIN, &number) == NK_DONE && number == 7 && begin_update(&one, &zones, 1000, sizeof room, sizeof frame, &written, &framed) == NK_DONE && framed == length);
+    IS(serial(&zones, ORIGIN, &number) == NK_DONE && number == 8 && answer(&zones, "www", 1, NK_UDP, 1232, &written) == NK_DONE && room[7] == 2 && nk_update_commit(&one, &zones) == NK_NO_PLAN);
+    IS(begin_update(&one, &zones, 1300, sizeof room, sizeof frame, &written, &framed) == NK_DONE && written > 12 && !(room[3] & 15) && !framed && nk_update_commit(&one, &zones) == NK_NO_PLAN);   /* again: nothing changes */
+    for (long nth = 1; left = nth, code = replay(&other, ORIGIN, length, &whole), left = -1, code != NK_DONE; nth++) IS(code == NK_NO_MEMORY && whole == length && serial(&other, ORIGIN, &number) == NK_DONE && number == 7);
+    IS(whole == length && serial(&other, ORIGIN, &number) == NK_DONE && number == 8 && answer(&other, "www", 1, NK_UDP, 1232, &written) == NK_DONE && room[7] == 2);
+    IS(replay(&other, ORIGIN, length, &whole) == NK_DONE && whole == length && serial(&other, ORIGIN, &number) == NK_DONE && number == 8);   /* a zone that has it already */
+    IS(load(&other, 0, ORIGIN, text, &written) == NK_DONE && replay(&other, ORIGIN, length - 1, &whole) == NK_DONE && !whole && serial(&other, ORIGIN, &number) == NK_DONE && number == 7);   /* torn */
+    IS(load(&other, 0, "b.example", text, &written) == NK_DONE && replay(&other, "b.example", length, &whole) == NK_MISFIT && whole == length && replay(&other, "a..b", length, &whole) == NK_BAD_NAME);
+    IS(begin_update(&one, &other, 1000, sizeof room, sizeof frame, &written, &framed) == NK_DONE && framed == length && !memcmp(frame, journal, length));
+    IS(update_zone(&other, 1, 1000, sizeof room, &written, &changed) == NK_DONE && changed == 1 && nk_update_commit(&one, &other) == NK_ZONE_CHANGED && nk_update_commit(&one, &other) == NK_NO_PLAN);
+    IS(load(&other, 0, ORIGIN, text, &written) == NK_DONE && begin_update(&one, &other, 1000, sizeof room, sizeof frame, &written, &framed) == NK_DONE && framed == length && drop(&other, ORIGIN) == NK_DONE && nk_update_commit(&one, &other) == NK_ZONE_CHANGED);
+    IS(load(&other, 0, ORIGIN, text, &written) == NK_DONE && begin_update(&one, &other, 1000, sizeof room, sizeof frame, &written, &framed) == NK_DONE && framed == length && (nk_zones_free(&other), nk_update_commit(&one, &other) == NK_CLOSED));
+    IS(expire(&zones, ORIGIN) == NK_DONE && begin_update(&one, &zones, 1000, sizeof room, sizeof frame, &written, &framed) == NK_DONE && (room[3] & 15) == 2 && room[11] == 1 && !framed);
+    nk_update_free(&one), nk_update_free(&one), nk_updates_free(&rules), nk_zones_free(&zones);
     return 0;
 }
 
@@ -580,7 +632,7 @@ static int change_failures(void) {
 int main(int argc, char **argv) {
     nk_zones zones = NK_ZONES_NONE;
     memset(before, 85, sizeof before);
-    int status = refusals() || expiry() || included() || notified() || plan_refusals() || transfers() || updates() || changes() || cookies() || failures(&zones) || datagrams(&zones, argc > 1 ? atol(argv[1]) : 0) || transfer_failures(&zones) || plan_failures(&zones) || change_failures();
+    int status = refusals() || expiry() || included() || notified() || plan_refusals() || transfers() || updates() || journals() || changes() || cookies() || failures(&zones) || datagrams(&zones, argc > 1 ? atol(argv[1]) : 0) || transfer_failures(&zones) || plan_failures(&zones) || change_failures();
     nk_zones_free(&zones);
     return status;
 }

@@ -25,7 +25,7 @@ LAYERS = {
     "signing": ["zone_keys", "zone_trimming", "zone_planning", "zone_digest", "zone_keeping", "zone_planner", "held_plans", "zone_rollover"],
     "changes": ["zone_secondary", "transfer_reading", "signed_transfers", "transferred_zones", "update_policy", "update_permission", "update_message", "update_answers", "update_denials", "journal_frames", "message_series", "zone_journal", "difference_messages", "kept_steps", "step_answers", "zone_difference", "zone_history", "shown_zones", "zone_update"],
     "what it proves": ["denial_validation", "denial_laws", "response_laws", "server_laws", "signing_laws", "incremental_laws", "transfer_laws", "update_laws"],
-    "the server": ["zone_origins", "zone_response", "zone_server", "transfer_messages", "server_options", "ready_table", "call_handles", "zone_database", "arrival_calls", "held_transfers", "held_steps", "held_updates", "keyed_frames", "transfer_calls", "update_calls", "notify_calls", "expiry_calls", "plan_calls", "file_calls", "ningkraet"],
+    "the server": ["zone_origins", "zone_response", "zone_server", "transfer_messages", "server_options", "ready_table", "call_handles", "zone_database", "arrival_calls", "held_transfers", "held_steps", "held_updates", "keyed_frames", "transfer_calls", "update_calls", "journal_calls", "notify_calls", "expiry_calls", "plan_calls", "file_calls", "ningkraet"],
     "programs": ["zonectl_commands", "zonectl_session", "zonectl", "host_texts", "zone_check", "zone_sign", "zoned", "secondaryd", "zone_store"],
 }
 TESTS = "tests and examples"

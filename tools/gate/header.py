@@ -16,9 +16,9 @@ import sources
 
 EXPORTS = "\n".join(library.texts("ningkraet").values())
 HEADER, CODES = "include/ningkraet.h", "crates/zone_database/src/outcome.rt"
-# The files of the codes that calls on plans, transfers and updates have besides, and those of how a zone is to be signed, and of rules.
+# The files of the codes that calls on plans, transfers, updates and their journals have besides, and those of how a zone is to be signed, and of rules.
 PLAN_CODES, TRANSFER_CODES, SIGNING = "crates/plan_calls/src/outcome.rt", "crates/transfer_calls/src/outcome.rt", "crates/plan_calls/src/signing.rt"
-UPDATE_CODES, RULES = "crates/update_calls/src/outcome.rt", "crates/update_calls/src/rules.rt"
+UPDATE_CODES, RULES, JOURNAL_CODES = "crates/update_calls/src/outcome.rt", "crates/update_calls/src/rules.rt", "crates/journal_calls/src/outcome.rt"
 # Those of calls about files, and why a file can't be read.
 FILE_CODES, LACKS = "crates/file_calls/src/outcome.rt", {"Absent": "FILE", "Folder": "FOLDER", "Stream": "STREAM", "Denied": "PERMISSION", "Unreadable": "OTHER"}
 CLIENT, SUMMARY = "crates/arrival_calls/src/client.rt", "crates/arrival_calls/src/summary_numbers.rt"
@@ -31,6 +31,7 @@ KINDS = {
     "&mut TransferHandle": ["nk_transfer *"],
     "&mut StepsHandle": ["nk_steps *"],
     "&mut UpdatesHandle": ["nk_updates *"],
+    "&mut PlannedHandle": ["nk_update *"],
     "&RuleTexts<'_>": ["const nk_rule *"],
     "&[u16]": ["const uint16_t *", "size_t"],
     "&mut PlanHandle": ["nk_plan *"],
@@ -74,7 +75,7 @@ def in_capitals(name):
 
 def told():
     """The codes of the library by their names in C."""
-    codes = [it for file in (CODES, TRANSFER_CODES, UPDATE_CODES, FILE_CODES) for it in re.findall(r"Outcome::(\w+) => (\d+),", sources.read(file))]
+    codes = [it for file in (CODES, TRANSFER_CODES, UPDATE_CODES, JOURNAL_CODES, FILE_CODES) for it in re.findall(r"Outcome::(\w+) => (\d+),", sources.read(file))]
     of_plans = re.findall(r"^const (\w+): u32 = (\d+);", sources.read(PLAN_CODES), re.M)
     return {in_capitals(name): int(code) for name, code in codes} | {f"NK_{name}": int(code) for name, code in of_plans}
 

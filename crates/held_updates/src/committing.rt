@@ -1,7 +1,6 @@
 //! Zones after updates, in place of those that were updated.
 ghost use Rattle.std.specs.Prelude.{◌≡◌, IfOk, OnErr, option_copied};
 ghost use Rattle.zone_database.specs.Databases.{zones_in};
-ghost use Rattle.zone_update.specs.Updates.{same_serial};
 ghost use Rattle.held_updates.specs.Committing.{is_current, Commits};
 ghost use Rattle.held_updates.specs.Journaling.{serial_of};
 
@@ -9,6 +8,7 @@ use crate::planned::UpdatedZone;
 use std::alloc::{AllocError, Global};
 use zone_database::{Zone, ZoneDatabase};
 use zone_proto::{LowerName, RecordType, RrKey, first_serial};
+use zone_update::same_serial;
 
 /// What came of a zone after an update that was to take the place of the one that was updated.
 #[derive(Clone, Copy, PartialEq, Eq, Debug)]
@@ -49,16 +49,6 @@ fn is_current(zones: &ZoneDatabase, updated: &UpdatedZone) -> Result<bool, Alloc
 {
     let serial = serial_of(zones.get(&updated.zone.origin))?;
     Ok(same_serial(updated.replaces, serial))
-}
-
-/// Whether both are serials, and the same one.
-fn same_serial(one: Option<u32>, other: Option<u32>) -> bool
-    ensures { result ≡ same_serial one other }
-{
-    match (one, other) {
-        (Some(one), Some(other)) => one == other,
-        _ => false,
-    }
 }
 
 /// The serial of a zone; none where there is no zone, or it has no SOA. Fails only for lack of memory.

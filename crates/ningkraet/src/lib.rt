@@ -1,9 +1,10 @@
 //! The zones of a server for programs that aren't written in Rattle: what `include/ningkraet.h` declares, each by one call of
-//! `zone_database`, `arrival_calls`, `transfer_calls`, `update_calls`, `notify_calls`, `expiry_calls`, `plan_calls` or `file_calls`.
+//! `zone_database`, `arrival_calls`, `transfer_calls`, `update_calls`, `journal_calls`, `notify_calls`, `expiry_calls`, `plan_calls` or `file_calls`.
 //! C passes no allocator; to C a slice is a pointer and a length, and a `&mut` a pointer.
 #![tactic(auto)]
 
-ghost use Rattle.std.specs.Prelude.{◌≡◌, [], None};
+ghost use Rattle.std.specs.Prelude.{◌≡◌, ◌≤◌, [], None, length, take};
+ghost use Rattle.journal_frames.specs.Journals.{whole};
 ghost use Rattle.arrival_calls.specs.ArrivalCalls.{AnswersClient};
 ghost use Rattle.zone_database.specs.Calls.{transport_of, AnswersHeld, AsksHeld, ChangesHeld, IsAdded, IsCreated, IsDropped, IsLoaded, IsPrepared, IsSerial, IsReported};
 ghost use Rattle.zone_database.specs.Outcomes.{code_of, Codes};
@@ -13,6 +14,9 @@ ghost use Rattle.transfer_calls.specs.Steps.{BeginsSteps, NotesHeld, ShortensHel
 ghost use Rattle.transfer_calls.specs.Transfers.{AnswersMessage, GivesMessage};
 ghost use Rattle.update_calls.specs.Accesses.{ReadsAccess as ReadsUpdates, RulesHeld, TellsFault};
 ghost use Rattle.update_calls.specs.Outcomes.{Codes as UpdateCodes};
+ghost use Rattle.journal_calls.specs.Outcomes.{Codes as JournalCodes};
+ghost use Rattle.journal_calls.specs.Plans.{plan_told, CommitsHeld, PlansHeld};
+ghost use Rattle.journal_calls.specs.Replays.{ReplaysHeld};
 ghost use Rattle.update_calls.specs.Updates.{told, UpdatesHeld};
 ghost use Rattle.message_notify.specs.Notifies.{response_of};
 ghost use Rattle.notify_calls.specs.NotifyCalls.{ReadsResponse, WritesNotify};
@@ -22,6 +26,7 @@ pub mod plans;
 pub mod zone_files;
 
 use arrival_calls::{ClientMessage, ServerSettings, SummaryNumbers, answer_client};
+use journal_calls::PlannedHandle;
 use notify_calls::calls as notifies;
 use std::alloc::Global;
 use transfer_calls::{AccessHandle, StepsHandle, TransferHandle};
@@ -367,6 +372,80 @@ pub extern "C" fn nk_zones_update(
     ensures same { updates.new.held ≡ updates.old.held }
 {
     update_calls::update(alloc, zones, updates, message, buffer, written, changed).code()
+}
+
+/// Carries out an update beside its zone, by the keys and rules that are kept, writes the response into one room and what the zone's journal gets into
+/// the other, and keeps the zone after the update where it is another.
+#[unsafe(no_mangle)]
+pub extern "C" fn nk_update_begin(
+    alloc: Global,
+    update: &mut PlannedHandle,
+    zones: &mut DatabaseHandle,
+    updates: &mut UpdatesHandle,
+    message: &ClientMessage<'_>,
+    buffer: &mut [u8],
+    written: &mut usize,
+    frame: &mut [u8],
+    frame_written: &mut usize,
+) -> u32
+    ensures update { JournalCodes result (λ o.
+        PlansHeld updates.old.held message.now zones.old.held
+        (plan_told o written.new buffer.old buffer.new frame_written.new frame.old frame.new)
+        update.new.held) }
+    ensures zones { zones.new.held ≡ zones.old.held }
+    ensures updates { updates.new.held ≡ updates.old.held }
+{
+    journal_calls::begin(
+        alloc,
+        update,
+        zones,
+        updates,
+        message,
+        buffer,
+        written,
+        frame,
+        frame_written,
+    )
+    .code()
+}
+
+/// Puts the zone after an update in place of the one that was updated, if that is still there. None is kept then, however it ends.
+#[unsafe(no_mangle)]
+pub extern "C" fn nk_update_commit(
+    alloc: Global,
+    update: &mut PlannedHandle,
+    zones: &mut DatabaseHandle,
+) -> u32
+    ensures zones { JournalCodes result (λ o.
+        CommitsHeld update.old.held zones.old.held o zones.new.held) }
+    ensures update { update.new.held ≡ None }
+{
+    journal_calls::commit(alloc, update, zones).code()
+}
+
+/// Gives the memory of the zone after an update back. None is kept then.
+#[unsafe(no_mangle)]
+pub extern "C" fn nk_update_free(alloc: Global, update: &mut PlannedHandle)
+    ensures { update.new.held ≡ None }
+{
+    journal_calls::free(alloc, update)
+}
+
+/// Puts the zone that its journal leads to in place of the zone of an origin, and writes how many octets of the journal are whole.
+#[unsafe(no_mangle)]
+pub extern "C" fn nk_zones_replay(
+    alloc: Global,
+    zones: &mut DatabaseHandle,
+    origin: &[u8],
+    journal: &[u8],
+    intact: &mut usize,
+) -> u32
+    ensures zones { JournalCodes result (λ o.
+        ReplaysHeld origin.now journal.now zones.old.held o zones.new.held) }
+    ensures intact { take intact.new journal.now ≡ whole journal.now }
+    ensures inside { intact.new ≤ length journal.now }
+{
+    journal_calls::replay(alloc, zones, origin, journal, intact).code()
 }
 
 /// Writes the NOTIFY for the zone of an origin into the room.

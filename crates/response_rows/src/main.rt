@@ -41,7 +41,6 @@
 #![tactic(auto)]
 
 mod message_text;
-mod octets;
 mod queries;
 mod questions;
 mod response_text;

@@ -6,9 +6,6 @@ use message_reading::{Header, Message, Question, read_message};
 use std::alloc::{AllocError, Global};
 use zone_proto::{Record, RecordType};
 
-/// The type of an OPT record (RFC 6891 section 6.1.1).
-const OPT: RecordType = RecordType(41);
-
 /// The text of a message.
 pub fn message_text(alloc: Global, octets: &[u8]) -> anyhow::Result<String> {
     let Ok(message) = read_message(alloc, octets) else {
@@ -52,7 +49,7 @@ pub fn frames_text(alloc: Global, octets: &[u8]) -> anyhow::Result<String> {
 fn extension_of(additionals: &[Record]) -> Option<&Record> {
     additionals
         .iter()
-        .find(|record| record.record_type() == OPT)
+        .find(|record| record.record_type() == RecordType::OPT)
 }
 
 /// The whole response code, with the upper eight bits that an OPT record has of it (RFC 6891 section 6.1.3).
@@ -152,7 +149,7 @@ fn write_questions(text: &mut String, questions: &[Question]) -> Result<(), Allo
 fn write_section(text: &mut String, section: &str, records: &[Record]) -> Result<(), AllocError> {
     let mut is_begun = false;
     for record in records {
-        if record.record_type() == OPT {
+        if record.record_type() == RecordType::OPT {
             continue;
         }
         if !is_begun {

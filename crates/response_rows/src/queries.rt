@@ -1,7 +1,7 @@
 //! Queries in words, and how they come.
 
-use crate::octets::octets_of;
 use anyhow::bail;
+use compared_rows::octets_of;
 use line_text::read_u16;
 use std::alloc::Global;
 use zone_proto::{Name, RecordType};
@@ -38,7 +38,7 @@ pub fn message_of(alloc: Global, words: &str) -> anyhow::Result<Vec<u8>> {
         bail!("a row has no message");
     };
     if first == "hex" {
-        return octets_of(alloc, rest);
+        return Ok(octets_of(alloc, rest)?);
     }
     let (type_word, flags) = rest.split_once(" ").unwrap_or((rest, ""));
     let name = Name::parse(alloc, first)?;

@@ -2,19 +2,13 @@
 
 use crate::response_text::ResponseText;
 use crate::zones::{Zone, lent};
-use alloc_failures::Scarcity;
+use alloc_failures::until_given;
 use anyhow::bail;
 use line_text::{Words, read_key};
 use std::alloc::Global;
 use zone_handler::{LookupError, LookupOptions};
 use zone_proto::{DNSClass, RrKey};
 use zone_response::{Question, Response, respond};
-
-/// How often a question is asked at most with memory refused.
-const ATTEMPTS: usize = 1_000;
-
-/// By how many octets the memory grows that is left to each.
-const STEP: usize = 16;
 
 /// A question, whether it asks for DNSSEC, and the moment at which it is asked.
 #[derive(Drop)]
@@ -37,11 +31,7 @@ pub fn say(alloc: Global, zones: &[Zone], words: &mut Words<'_>) -> anyhow::Resu
 pub fn say_at_last(alloc: Global, zones: &[Zone], words: &mut Words<'_>) -> anyhow::Result<String> {
     let zone = last_of(zones)?;
     let asked = read_question(alloc, words)?;
-    let mut scarce = Scarcity::new(alloc)?;
-    scarce.begin(ATTEMPTS)?;
-    let given = scarce.until_given(STEP, || unless_refused(zone, &asked));
-    scarce.end();
-    let Some((refused, response)) = given else {
+    let Some((refused, response)) = until_given(alloc, || unless_refused(zone, &asked))? else {
         return Ok(format!(in alloc; ";; refused\n")?);
     };
     if refused == 0 {

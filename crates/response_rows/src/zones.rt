@@ -1,9 +1,9 @@
 //! The zones of a server by their words, and what they answer.
 
 use crate::message_text::{frames_text, message_text};
-use crate::octets::octets_of;
 use crate::queries::{message_of, transport_of};
 use anyhow::bail;
+use compared_rows::octets_of;
 use line_text::{Words, read_hex, read_name, read_record, read_u8};
 use std::alloc::Global;
 use zone_handler::{AxfrPolicy, ZoneHandler, ZoneType};

@@ -4,7 +4,6 @@
 
 pub mod laws;
 mod permission;
-mod serials;
 mod updating;
 
 pub use permission::is_permitted;

@@ -4,12 +4,11 @@ ghost use Rattle.zone_update.specs.Entries.{Gives};
 ghost use Rattle.update_permission.specs.Permissions.{changed_alone, updated_if_permitted};
 
 use crate::permission::is_permitted;
-use crate::serials::finished;
 use std::alloc::Global;
 use update_policy::Rule;
 use zone_map::RecordMap;
 use zone_proto::LowerName;
-use zone_update::{Entry, Refusal, Update, changed_sets, check_prerequisites};
+use zone_update::{Entry, Refusal, Update, changed_sets, check_prerequisites, finished};
 
 /// The sets of the zone of an origin after an update that the owner of a key asks for, where a table of rules permits each of its changes
 /// ([`is_permitted`]); none where it changes nothing. Those that it has are only read, so a refusal leaves nothing to undo.

@@ -23,4 +23,5 @@ pub use names::types_at;
 pub use prerequisites::check_prerequisites;
 pub use processing::goes;
 pub use refusal::Refusal;
+pub use serials::{finished, same_serial};
 pub use updating::{changed_sets, updated};

@@ -11,7 +11,7 @@ use crate::entry::{Entry, Update};
 use crate::prerequisites::meet;
 use crate::processing::process;
 use crate::refusal::Refusal;
-use crate::serials::{same_serial, step_serial, zone_serial};
+use crate::serials::{finished, zone_serial};
 use std::alloc::Global;
 use zone_difference::copied;
 use zone_map::RecordMap;
@@ -121,11 +121,10 @@ fn changed(
     ensures err { IsOkUnless result ProtoError.Memory }
 {
     let apex = RrKey::new(origin.clone()?, RecordType::SOA);
-    let before = zone_serial(zone.as_map(), &apex);
+    let serial = zone_serial(zone.as_map(), &apex).unwrap_or(0);
     let mut records = copied(alloc, zone)?;
-    let changed = run(alloc, &mut records, origin, before.unwrap_or(0), changes)?;
-    if changed && same_serial(before, zone_serial(records.as_map(), &apex)) {
-        step_serial(&mut records, apex)?;
+    if run(alloc, &mut records, origin, serial, changes)? {
+        return finished(origin, zone, records);
     }
     Ok(records)
 }

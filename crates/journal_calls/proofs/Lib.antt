@@ -1,0 +1,3 @@
+pub mod PlanFacts
+pub mod PlanTelling
+pub mod ReplayFacts
