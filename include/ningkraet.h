@@ -542,6 +542,13 @@ uint32_t nk_zones_load_files(nk_zones *zones, nk_files *files, const uint8_t *or
                              size_t file_length, const uint8_t *text, size_t text_length, uint8_t *buffer, size_t buffer_length,
                              size_t *written);
 
+/* Writes the zone with this origin as a zone file into the buffer: the SOA first, then all other sets in canonical order, each followed by its
+ * signatures; names are absolute. So what updates made of a zone is kept: once the file is on the disk, its journal can begin anew. `written`
+ * has the length; after NK_NO_ROOM it says how many octets are needed, and the buffer is as it was; with any other code it is 0. A zone that has
+ * expired has no records.
+ * NK_DONE, NK_NO_ROOM, NK_NO_ZONE, NK_BAD_NAME, NK_NO_MEMORY or NK_CLOSED. */
+uint32_t nk_zones_write(nk_zones *zones, const uint8_t *origin, size_t origin_length, uint8_t *buffer, size_t buffer_length, size_t *written);
+
 #ifdef __cplusplus
 }
 #endif

@@ -20,12 +20,12 @@ import sources
 LAYERS = {
     "names and data": ["zone_proto", "zone_sha1"],
     "text and wire": ["message_reading", "message_writing", "message_hmac", "message_tsig", "message_notify", "message_cookies", "message_options", "ready_answers", "input_reads", "line_text", "zone_scanner", "key_files", "zone_tokens", "service_parameters", "record_fields",
-                      "zone_file", "file_origins", "zone_texts", "included_texts", "zone_file_writer"],
+                      "zone_file", "file_origins", "zone_texts", "included_texts", "zone_file_writer", "zone_printing"],
     "the zone": ["lookup_types", "zone_handler", "zone_frozen", "zone_map", "zone_signing", "zone_denial", "zone_verify", "zone_publication", "zone_builder", "zone_lookup", "zone_in_memory"],
     "signing": ["zone_keys", "zone_trimming", "zone_planning", "zone_digest", "zone_keeping", "zone_planner", "held_plans", "zone_rollover"],
     "changes": ["zone_secondary", "transfer_reading", "signed_transfers", "transferred_zones", "update_policy", "update_permission", "update_message", "update_answers", "update_denials", "journal_frames", "message_series", "zone_journal", "difference_messages", "kept_steps", "step_answers", "zone_difference", "zone_history", "shown_zones", "zone_update"],
     "what it proves": ["denial_validation", "denial_laws", "response_laws", "server_laws", "signing_laws", "incremental_laws", "transfer_laws", "update_laws"],
-    "the server": ["zone_origins", "zone_response", "zone_server", "transfer_messages", "server_options", "ready_table", "call_handles", "zone_database", "arrival_calls", "held_transfers", "held_steps", "held_updates", "keyed_frames", "transfer_calls", "update_calls", "journal_calls", "notify_calls", "expiry_calls", "plan_calls", "file_calls", "ningkraet"],
+    "the server": ["zone_origins", "zone_response", "zone_server", "transfer_messages", "server_options", "ready_table", "call_handles", "zone_database", "arrival_calls", "held_transfers", "held_steps", "held_updates", "keyed_frames", "transfer_calls", "update_calls", "journal_calls", "notify_calls", "expiry_calls", "plan_calls", "file_calls", "text_calls", "ningkraet"],
     "programs": ["zonectl_commands", "zonectl_session", "zonectl", "host_texts", "zone_check", "zone_sign", "zoned", "secondaryd", "zone_store"],
 }
 TESTS = "tests and examples"

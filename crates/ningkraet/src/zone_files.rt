@@ -1,9 +1,13 @@
-//! Zones of files with those that they include, each export by one call of `file_calls`.
+//! Zones of files with those that they include, each export by one call of `file_calls`, and a zone as a file, by `text_calls`.
 ghost use Rattle.std.specs.Prelude.{◌≡◌, None, Err, Ok};
+ghost use Rattle.call_handles.specs.Rooms.{IsUntouched};
 ghost use Rattle.included_texts.specs.Kept.{files_of, IsSame};
 ghost use Rattle.file_calls.specs.Calls.{GivesName, KeepsFile, kept_in, wanted_in};
 ghost use Rattle.file_calls.specs.Loading.{IsReported, IsWanting, LoadsHeld};
 ghost use Rattle.file_calls.specs.Outcomes.{lack_of, Codes};
+ghost use Rattle.zone_database.specs.Calls.{AsksHeld};
+ghost use Rattle.zone_database.specs.Outcomes.{Codes as UsualCodes};
+ghost use Rattle.text_calls.specs.Texts.{WritesNamed};
 
 use file_calls::FilesHandle;
 use std::alloc::Global;
@@ -82,4 +86,21 @@ pub extern "C" fn nk_zones_load_files(
     ensures kept { IsSame (kept_in files.old.held) (kept_in files.new.held) }
 {
     file_calls::load(alloc, zones, files, origin, file, text, buffer, written).code()
+}
+
+/// Writes the zone of an origin as a zone file into the room.
+#[unsafe(no_mangle)]
+pub extern "C" fn nk_zones_write(
+    alloc: Global,
+    zones: &mut DatabaseHandle,
+    origin: &[u8],
+    buffer: &mut [u8],
+    written: &mut usize,
+) -> u32
+    ensures text { UsualCodes result (λ o. AsksHeld
+        (λ zs e. WritesNamed origin.now zs e written.new buffer.old buffer.new)
+        (IsUntouched written.new buffer.old buffer.new) zones.old.held o) }
+    ensures same { zones.new.held ≡ zones.old.held }
+{
+    text_calls::write_zone(alloc, zones, origin, buffer, written).code()
 }

@@ -31,7 +31,6 @@ mod frames;
 mod serving;
 mod starting;
 mod version;
-mod zone_text;
 
 use host_texts::{arguments, tell};
 use serving::serve;

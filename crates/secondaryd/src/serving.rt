@@ -3,10 +3,10 @@
 use crate::events::{NoMemory, Progress};
 use crate::following::Following;
 use crate::frames::{Event, EventKind, read_event, write_frame};
-use crate::zone_text::zone_text;
 use std::alloc::{AllocError, Global};
 use std::io;
 use std::io::{ErrorKind, Read, Write};
+use zone_printing::MasterZoneText;
 use zone_secondary::Poll;
 
 /// Why the frames of an input aren't answered to its end.
@@ -114,8 +114,9 @@ fn take<W: Write>(
     match following.take(alloc, event.octets.as_slice(), event.moment) {
         Progress::More | Progress::Unasked => return Ok(()),
         Progress::Taken => {
-            let text = zone_text(alloc, &following.apex, &following.held)?;
-            write_frame(output, b'z', text.as_slice())?;
+            let zone = MasterZoneText(alloc, &following.apex, &following.held);
+            let text = format!(in alloc; "{zone}")?;
+            write_frame(output, b'z', text.as_bytes())?;
         }
         Progress::Serial(_, Poll::Newer) => {}
         Progress::Serial(_, Poll::Same) => write_frame(output, b'k', &[])?,

@@ -12,10 +12,10 @@ use std::alloc::{AllocError, Global};
 use std::io;
 use std::io::{BufWriter, Read, Write};
 use zone_builder::Loaded;
-use zone_file_writer::MasterSetText;
 use zone_map::RecordMap;
 use zone_planner::{Request, make_plan, planned_by_flags};
 use zone_planning::{Plan, PlanFault, finish, push_end, push_frames, read_signatures};
+use zone_printing::MasterZoneText;
 use zone_proto::{DNSKEY, LowerName, ProtoError, RecordType, RrKey};
 
 /// Writes what has to be signed, and unless only that is wanted reads the signatures and writes the zone. None if that fails, which is
@@ -185,20 +185,13 @@ fn write_plan<W: Write>(alloc: Global, output: &mut W, records: &RecordMap) -> R
     Ok(())
 }
 
-/// Writes the zone: the SOA first, then all sets in order, each followed by its signatures.
+/// Writes the zone.
 fn write_zone<W: Write>(
     alloc: Global,
     output: &mut W,
     apex: &RrKey,
     records: &RecordMap,
 ) -> io::Result<()> {
-    if let Some(set) = records.get(apex) {
-        write!(output, "{}", MasterSetText(alloc, set))?;
-    }
-    for (key, set) in records.iter() {
-        if !apex.same_as(key) {
-            write!(output, "{}", MasterSetText(alloc, set))?;
-        }
-    }
+    write!(output, "{}", MasterZoneText(alloc, apex, records))?;
     output.flush()
 }
