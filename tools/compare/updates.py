@@ -1,11 +1,15 @@
 #!/usr/bin/env python3
-"""tools/compare/updates.py [SEED [ROUNDS [FOLDER]]]: the C library and BIND get the same random updates of a zone (RFC 2136), signed by one of
-two keys (TSIG), of which one may change all, and the other little. After each, both have answered with the same code, and both have the same
+"""tools/compare/updates.py [SEED [ROUNDS [FOLDER]]]: the C library, BIND and Knot DNS get the same random updates of a zone (RFC 2136), signed by one
+of two keys (TSIG), of which one may change all, and the other little. After each, all have answered with the same code, and have the same
 records; the HMAC of Python judges the TSIG of each response of the library. Then nsupdate and knsupdate are clients of the library. If a tool is
 missing, it is left out, and a line says so. Not part of the gate: it needs cc, and opens sockets on loopback. It ends what it starts.
 
-BIND is Debian's package bind9, and the tools are those of bind9-dnsutils and knot-dnsutils. FOLDER is what `./build ningkraet` made; where none is
-named it is what `tools/build/program path ningkraet` gives. The status is 1 if anything differs.
+What they do otherwise: BIND looks at who may change what before the prerequisites, and leaves the serial where changes undo each other (sections
+3.3 and 3.6 of RFC 2136 allow that). Knot DNS keeps the TTL that a set has (section 3.4.2.2 has the record replaced, with its TTL); its rules of
+who may change what are of whole messages, so that it gets the updates which the library didn't refuse, under the key that may change all.
+
+The servers are Debian's packages bind9 and knot, and the tools are those of bind9-dnsutils and knot-dnsutils. FOLDER is what `./build ningkraet`
+made; where none is named it is what `tools/build/program path ningkraet` gives. The status is 1 if anything differs.
 """
 import base64
 import os
@@ -47,6 +51,12 @@ POLICY = " ".join(
 )
 BIND = 'zone "{origin}" {{ type primary; file "{path}"; check-integrity no; check-mx ignore; allow-transfer {{ any; }}; update-policy {{ {policy} }}; }};\n'
 BIND_KEY = 'key "{key}" {{ algorithm hmac-sha256; secret "{secret}"; }};\n'
+KNOT = (
+    "key:\n - id: {key}\n   algorithm: hmac-sha256\n   secret: {secret}\n"
+    "acl:\n - id: all\n   key: {key}\n   action: update\n - id: anybody\n   address: 127.0.0.1\n   action: transfer\n"
+    'zone:\n - domain: "{origin}"\n   file: "{path}"\n   zonefile-sync: -1\n   zonefile-load: whole\n   semantic-checks: off\n   acl: [all, anybody]\n'
+)
+SERVERS = {"named": "BIND", "knotd": "Knot DNS"}
 NAMES = [ORIGIN, *(f"{it}.{ORIGIN}" for it in ("a", "b", "a.a", "kept.b", "c.b", "alias", "kept", "new", "x.y.new"))]
 # What the tools are told: a record that is added, and one that needs a record that isn't there.
 TOLD = "server 127.0.0.1 {port}\nzone {origin}\nkey hmac-sha256:{key} {secret}\n{change}\nsend\nquit\n"
@@ -104,6 +114,11 @@ class Held:
         self.done("nk_zones_update", self.zones, byref(self.updates), self.message(octets, 0), *self.whole, byref(self.changed))
         return self.room.raw[: self.written.value], bool(self.changed.value)
 
+    def text(self):
+        """The zone as a zone file."""
+        self.done("nk_zones_write", self.zones, *pair(ORIGIN.encode()), *self.whole)
+        return self.room.raw[: self.written.value]
+
     def answers(self, octets):
         """The messages of the answer over TCP."""
         begun = self.call("nk_transfer_begin", self.transfer, byref(self.zones), byref(self.access), self.message(octets, 1), *self.whole)
@@ -113,19 +128,38 @@ class Held:
             sys.exit("updates: the library doesn't send its zone")
 
 
-class Peer:
-    """The same zone in BIND."""
+def configuration(server, path):
+    """What the configuration of a server says of its keys, and of its zone in this file."""
+    secret = base64.b64encode(SECRET).decode()
+    if server == "knotd":
+        return KNOT.format(key=OTHER, secret=secret, origin=ORIGIN, path=path)
+    return "".join(BIND_KEY.format(key=key, secret=secret) for key in (KEY, OTHER)) + BIND.format(origin=ORIGIN, path=path, policy=POLICY)
 
-    def __init__(self, folder):
-        self.port = peers.free_port()
+
+class Peer:
+    """The same zone in another server."""
+
+    def __init__(self, server, folder):
+        self.server, self.folder, self.times = server, folder, 0
+        self.begin(ZONE.encode())
+
+    def begin(self, text):
+        """Begins with a zone of this text."""
+        self.port, self.times = peers.free_port(), self.times + 1
+        folder = f"{self.folder}{self.times}"
         os.mkdir(folder)
-        with open(f"{folder}/zone", "w", encoding="ascii") as it:
-            it.write(ZONE)
-        keys = "".join(BIND_KEY.format(key=key, secret=base64.b64encode(SECRET).decode()) for key in (KEY, OTHER))
-        zone = BIND.format(origin=ORIGIN, path=f"{folder}/zone", policy=POLICY)
-        self.process = peers.begun(peers.configured("named", f"{folder}/named", self.port, keys + zone))
+        with open(f"{folder}/zone", "wb") as it:
+            it.write(text)
+        self.process = peers.begun(peers.configured(self.server, f"{folder}/server", self.port, configuration(self.server, f"{folder}/zone")))
         with peers.connected(self.port) as stream:
             peers.await_zones(stream, [ORIGIN])
+
+    def begin_anew(self, text):
+        self.end()
+        self.begin(text)
+
+    def end(self):
+        peers.end(self.process)
 
     def updated(self, octets):
         with socket.socket(socket.AF_INET, socket.SOCK_DGRAM) as it:
@@ -176,6 +210,11 @@ def serial_of(records):
 
 def without_start(records):
     return {it for it in records if it[1] != SOA}
+
+
+def without_times(records):
+    """Records without their TTLs, and without the SOA."""
+    return {(name, kind, data) for name, kind, _, data in without_start(records)}
 
 
 # ---- updates
@@ -237,32 +276,46 @@ def random_update():
 # ---- what is compared
 
 
-def differences(held, bind, rounds):
-    """What the two make of the same updates, where it isn't the same; how many were answered with which code; and how many serials differed."""
-    wrong, codes, undone = [], {}, 0
+def compared(held, peer, octets, key, code):
+    """What another server makes of an update otherwise than the library, which answered with this code, and what it may; then that is made good."""
+    if peer.server == "knotd":
+        if code == REFUSED:
+            return None, False
+        key = OTHER
+    theirs = peer.updated(signed(octets, key)[0])[3] & 15
+    mine, others = zone_of(held), zone_of(peer)
+    # (what a key may not delete may be absent: then the library says NOERROR, as nothing changes, and BIND REFUSED)
+    if code != theirs and not (peer.server == "named" and theirs == REFUSED and (code in UNMET or code == NOERROR and mine == others)):
+        return f"{code}, and {SERVERS[peer.server]} {theirs}", False
+    if mine == others:
+        return None, False
+    undone = without_start(mine) == without_start(others) and serial_of(mine) == serial_of(others) + 1
+    timed = peer.server == "knotd" and without_times(mine) == without_times(others) and serial_of(mine) - serial_of(others) in (0, 1)
+    if not undone and not timed:
+        return f"only here {mine - others}, only in {SERVERS[peer.server]} {others - mine}", False
+    peer.begin_anew(held.text())
+    return None, True
+
+
+def differences(held, others, rounds):
+    """What they make of the same updates, where it isn't the same; how many were answered with which code; and how many servers did what they may."""
+    wrong, codes, allowed = [], {}, {it.server: 0 for it in others}
     for number in range(rounds):
-        key = random.choice([KEY, OTHER, OTHER])
-        message, mac = signed(random_update(), key)
+        key, octets = random.choice([KEY, OTHER, OTHER]), random_update()
+        message, mac = signed(octets, key)
         before = zone_of(held)
         ours, changed = held.updated(message)
-        theirs = bind.updated(message)
         code = ours[3] & 15
         codes[code] = codes.get(code, 0) + 1
-        mine, others = zone_of(held), zone_of(bind)
-        if not judged([ours], key, mac).right or changed != (mine != before) or changed and code != NOERROR:
+        if not judged([ours], key, mac).right or changed != (zone_of(held) != before) or changed and code != NOERROR:
             wrong.append(f"{number}: the response isn't signed, or tells wrongly whether the zone changed: {message.hex()}")
-        # (what a key may not delete may be absent: then the library says NOERROR, as nothing changes, and BIND REFUSED)
-        if code != theirs[3] & 15 and not (theirs[3] & 15 == REFUSED and (code in UNMET or code == NOERROR and mine == others)):
-            wrong.append(f"{number}: {code}, and BIND {theirs[3] & 15}: {message.hex()}")
-        if without_start(mine) == without_start(others) and serial_of(mine) == serial_of(others) + 1:
-            # (changes that undo each other: the library's serial goes on, and BIND's stays; section 3.6 allows both)
-            undone += 1
-            for it in (held, bind):
-                it.updated(signed(update([], [entry(ORIGIN, SOA, IN, 300, start_data(serial_of(mine) + 1))]), OTHER)[0])
-        elif mine != others:
-            wrong.append(f"{number}: only here {mine - others}, only in BIND {others - mine}: {message.hex()}")
-            break
-    return wrong, codes, undone
+        for it in others:
+            differs, may = compared(held, it, octets, key, code)
+            allowed[it.server] += may
+            if differs:
+                wrong.append(f"{number}: {differs}: {octets.hex()}")
+                it.begin_anew(held.text())
+    return wrong, codes, allowed
 
 
 def serve(held, port):
@@ -301,17 +354,20 @@ def wrong_of_tool(tool, held, port):
 
 def main(seed="1", rounds="300", folder=None):
     random.seed(int(seed))
-    held, wrong = Held(folder or peers.program("ningkraet")), []
-    if peers.found("named"):
-        with tempfile.TemporaryDirectory() as room:
-            bind = Peer(f"{room}/bind")
-            try:
-                wrong, codes, undone = differences(held, bind, int(rounds))
-            finally:
-                peers.end(bind.process)
-        print(f"updates: {rounds} updates, by their codes {dict(sorted(codes.items()))}; of {undone} the changes undo each other")
-    else:
-        print("updates: left out: named isn't there")
+    held, wrong, others = Held(folder or peers.program("ningkraet")), [], []
+    with tempfile.TemporaryDirectory() as room:
+        try:
+            for server, name in SERVERS.items():
+                if peers.found(server):
+                    others.append(Peer(server, f"{room}/{server}"))
+                else:
+                    print(f"updates: left out: {name} isn't there")
+            wrong, codes, allowed = differences(held, others, int(rounds))
+        finally:
+            for it in others:
+                it.end()
+    told = ", ".join(f"{SERVERS[server]} after {count}" for server, count in allowed.items())
+    print(f"updates: {rounds} updates, by their codes {dict(sorted(codes.items()))}; other zones, as they may be: {told or 'none'}")
     port = peers.free_port()
     serve(held, port)
     for tool in ("nsupdate", "knsupdate"):
