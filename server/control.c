@@ -1,15 +1,5 @@
 /* Carries out commands of ningkraetctl. */
 #include "control.h"
-
-#include <errno.h>
-#include <stdio.h>
-#include <string.h>
-#include <sys/socket.h>
-#include <sys/stat.h>
-#include <sys/un.h>
-#include <unistd.h>
-
-#include "log.h"
 #include "zones.h"
 
 enum { COMMAND = 8192, REPLY = 1 << 22, PATIENCE = 2 };   /* PATIENCE: seconds in which more of a command has to come, and of its reply to go */
@@ -39,10 +29,6 @@ static int read_line(int fd, char *line) {
     return end != NULL;
 }
 
-static void write_all(int fd, const char *text, size_t length) {
-    for (ssize_t sent; length && (sent = send(fd, text, length, MSG_NOSIGNAL)) > 0; length -= sent) text += sent;
-}
-
 /* Writes the reply to a command: its first word is ok or error. */
 static size_t reply_to(char *line, char *reply, struct worker *workers, size_t worker_count, int *is_over) {
     char *rest = line, *name = strsep(&rest, " "), *first = rest ? strsep(&rest, " ") : NULL, *second = rest;
@@ -60,8 +46,7 @@ static size_t reply_to(char *line, char *reply, struct worker *workers, size_t w
         size_t faults = zones_renew(1);
         return faults ? (size_t)sprintf(reply, "error\n%zu zones have a file that is bad: ningkraetctl zones has them\n", faults) : length;
     }
-    *is_over = !strcmp(name, "stop") && !first;
-    if (*is_over) return length;
+    if ((*is_over = !strcmp(name, "stop") && !first)) return length;
     if (!strcmp(name, "add") && second) {
         why = zones_add(first, second);
         if (!why && zones_renew(0)) why = "its file is bad, or another's: ningkraetctl zones has the faults";
@@ -75,7 +60,7 @@ int control_take(int listener, struct worker *workers, size_t worker_count) {
     const struct timeval patience = {PATIENCE, 0};
     int is_over = 0, fd = accept4(listener, NULL, NULL, SOCK_CLOEXEC);
     for (int i = 0; i < 2; i++) setsockopt(fd, SOL_SOCKET, i ? SO_RCVTIMEO : SO_SNDTIMEO, &patience, sizeof patience);
-    if (fd >= 0 && read_line(fd, line)) write_all(fd, reply, reply_to(line, reply, workers, worker_count, &is_over));
+    if (fd >= 0 && read_line(fd, line)) (void)!send(fd, reply, reply_to(line, reply, workers, worker_count, &is_over), MSG_NOSIGNAL);
     if (fd >= 0) close(fd);
     return is_over;
 }

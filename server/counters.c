@@ -1,8 +1,5 @@
 /* Counting, and telling what was counted. */
-#include "counters.h"
-
-#include <stdarg.h>
-#include <stdio.h>
+#include "log.h"
 
 const char *const kind_names[KINDS] = {"answer", "referral", "no_data", "name_error", "refused", "failed", "truncated", "other"};
 const char *const cookie_names[COOKIES] = {"absent", "malformed", "unknown", "known"};
@@ -15,18 +12,12 @@ void count_response(struct counters *counters, size_t length, const nk_summary *
     count(&counters->truncated, summary->truncated);
 }
 
-/* Text that is put together in a buffer, as much of it as there is room for. */
-struct text {
-    char *start;
-    size_t size, length;
-};
-
-__attribute__((format(printf, 2, 3))) static void put(struct text *text, const char *format, ...) {
+size_t put(char *text, size_t room, const char *format, ...) {
     va_list values;
     va_start(values, format);
-    int length = vsnprintf(text->start + text->length, text->size - text->length, format, values);
+    int length = vsnprintf(text, room, format, values);
     va_end(values);
-    if (length > 0) text->length += (size_t)length < text->size - text->length ? (size_t)length : text->size - text->length - 1;
+    return length < 0 ? 0 : (size_t)length < room ? (size_t)length : room - 1;
 }
 
 static unsigned long long sum(struct counters *const *workers, size_t worker_count, size_t offset) {
@@ -47,20 +38,20 @@ static const struct family {
     {"rcodes", "rcode", "responses with RCODE", offsetof(struct counters, codes), CODES, NULL},
     {"cookies", "cookie", "responses to clients whose cookie is", offsetof(struct counters, cookies), COOKIES, cookie_names}};
 
-size_t counters_print(char *start, size_t size, struct counters *const *workers, size_t worker_count, int for_prometheus) {
-    struct text text = {start, size, 0};
+size_t counters_print(char *text, size_t size, struct counters *const *workers, size_t worker_count, int for_prometheus) {
+    size_t length = 0;
     for (const struct family *it = families; it < families + sizeof families / sizeof *families; it++) {
-        if (for_prometheus) put(&text, "# HELP ningkraetd_%s_total %s\n# TYPE ningkraetd_%s_total counter\n", it->name, it->words, it->name);
+        if (for_prometheus) length += put(text + length, size - length, "# HELP ningkraetd_%s_total %s\n# TYPE ningkraetd_%s_total counter\n", it->name, it->words, it->name);
         for (size_t i = 0; i < it->count; i++) {
             unsigned long long all = sum(workers, worker_count, it->offset + i * sizeof(atomic_ullong));
             char number[24];
             snprintf(number, sizeof number, "%zu", i);
             const char *value = it->values ? it->values[i] : number;
-            if (it->label && for_prometheus) put(&text, "ningkraetd_%s_total{%s=\"%s\"} %llu\n", it->name, it->label, value, all);
-            else if (for_prometheus) put(&text, "ningkraetd_%s_total %llu\n", it->name, all);
-            else if (!it->label) put(&text, "%12llu %s\n", all, it->words);
-            else if (it->values || all) put(&text, "%12llu %s %s\n", all, it->words, value);
+            if (it->label && for_prometheus) length += put(text + length, size - length, "ningkraetd_%s_total{%s=\"%s\"} %llu\n", it->name, it->label, value, all);
+            else if (for_prometheus) length += put(text + length, size - length, "ningkraetd_%s_total %llu\n", it->name, all);
+            else if (!it->label) length += put(text + length, size - length, "%12llu %s\n", all, it->words);
+            else if (it->values || all) length += put(text + length, size - length, "%12llu %s %s\n", all, it->words, value);
         }
     }
-    return text.length;
+    return length;
 }

@@ -1,16 +1,6 @@
-/* Limits for clients.
- *
- * Both tables are of counters at the hash of a client, under a key that is drawn at each start, so that nobody can choose whom to meet
- * there. Two clients that meet share a limit for as long. */
-#include "limits.h"
-
-#include <netinet/in.h>
-#include <stdlib.h>
-#include <string.h>
-#include <sys/random.h>
-#include <time.h>
-
-#include "log.h"
+/* Limits for clients. Both tables are of counters at the hash of a client, under a key that is drawn at each start, so that nobody can choose whom
+ * to meet there. Two clients that meet share a limit for as long. */
+#include "worker.h"
 
 enum { TALLIES = 1 << 16, BUCKETS = 1 << 20 };
 
@@ -25,10 +15,10 @@ static uint64_t rotated(uint64_t x, int by) { return x << by | x >> (64 - by); }
 /* SipHash-2-4 (Aumasson and Bernstein, 2012). */
 static uint64_t hash_of(const uint8_t *octets, size_t length) {
     uint64_t v[4] = {key[0] ^ 0x736f6d6570736575, key[1] ^ 0x646f72616e646f6d, key[0] ^ 0x6c7967656e657261, key[1] ^ 0x7465646279746573};
-    for (size_t at = 0;; at += 8) {
-        uint64_t word = (uint64_t)length << 56;
-        size_t left = length - at;
-        for (size_t i = 0; i < (left < 8 ? left : 8); i++) word = i == 7 ? (word & 0x00ffffffffffffff) | (uint64_t)octets[at + i] << 56 : word | (uint64_t)octets[at + i] << 8 * i;
+    for (size_t left = length;; octets += 8, left -= 8) {
+        uint64_t word = htole64((uint64_t)length << 56);
+        memcpy(&word, octets, left < 8 ? left : 8);
+        word = le64toh(word);
         v[3] ^= word;
         for (int round = 0; round < (left < 8 ? 2 + 4 : 2); round++) {
             if (left < 8 && round == 2) v[0] ^= word, v[2] ^= 0xff;
@@ -52,11 +42,10 @@ const uint8_t *client_octets(const struct sockaddr *client, size_t *length) {
 static size_t put_prefix(uint8_t *to, const struct sockaddr *client, unsigned bits_v4, unsigned bits_v6) {
     size_t length;
     const uint8_t *octets = client_octets(client, &length);
-    int is_v4 = length == 4;
-    unsigned bits = is_v4 ? bits_v4 : bits_v6;
-    *to++ = is_v4 ? 4 : 6;
-    for (unsigned i = 0; i < (is_v4 ? 4u : 8u); i++) to[i] = bits >= 8 * (i + 1) ? octets[i] : bits > 8 * i ? octets[i] & 0xff << (8 * (i + 1) - bits) : 0;
-    return is_v4 ? 5 : 9;
+    unsigned bits = length == 4 ? bits_v4 : bits_v6, count = length == 4 ? 4 : 8;
+    *to++ = count;
+    for (unsigned i = 0; i < count; i++) to[i] = bits >= 8 * (i + 1) ? octets[i] : bits > 8 * i ? octets[i] & 0xff << (8 * (i + 1) - bits) : 0;
+    return count + 1;
 }
 
 int limits_begin(const struct config *given) {
@@ -81,7 +70,7 @@ static size_t put_name(uint8_t *to, const uint8_t *query, size_t length, uint32_
 }
 
 enum verdict limits_take(const struct sockaddr *client, const nk_summary *summary, const uint8_t *query, size_t query_length) {
-    if (!buckets || summary->cookie == NK_COOKIE_KNOWN) return SEND;
+    if (!buckets || summary->cookie == NK_COOKIE_KNOWN || (summary->kind == NK_OTHER && !summary->code)) return SEND;
     uint32_t kind = summary->kind;
     uint8_t octets[10 + 256];
     size_t length = put_prefix(octets, client, config->rate_prefix_v4, config->rate_prefix_v6);
@@ -95,19 +84,15 @@ enum verdict limits_take(const struct sockaddr *client, const nk_summary *summar
     do new = (old & ~0xffffull) != mark ? mark | 1 : (old & 0xffff) == 0xffff ? old : old + 1;
     while (!atomic_compare_exchange_weak_explicit(bucket, &old, new, memory_order_relaxed, memory_order_relaxed));
     unsigned responses = new & 0xffff;
-    if (responses <= config->rate_limit) return SEND;
-    return config->rate_slip && (responses - config->rate_limit) % config->rate_slip == 0 ? CUT : WITHHOLD;
+    return responses <= config->rate_limit ? SEND : config->rate_slip && (responses - config->rate_limit) % config->rate_slip == 0 ? CUT : WITHHOLD;
 }
 
 atomic_uint *limits_enter(const struct sockaddr *client) {
     uint8_t octets[9];
     atomic_uint *tally = &tallies[hash_of(octets, put_prefix(octets, client, 32, 64)) % TALLIES];
-    if (atomic_fetch_add(tally, 1) < config->tcp_client_connections) {
-        atomic_fetch_add(&connections, 1);
-        return tally;
-    }
-    atomic_fetch_sub(tally, 1);
-    return NULL;
+    if (atomic_fetch_add(tally, 1) >= config->tcp_client_connections) return atomic_fetch_sub(tally, 1), NULL;
+    atomic_fetch_add(&connections, 1);
+    return tally;
 }
 
 void limits_leave(atomic_uint *tally) {

@@ -1,17 +1,5 @@
 /* Logs. */
-#include "log.h"
-
-#include <arpa/inet.h>
-#include <errno.h>
-#include <fcntl.h>
-#include <netinet/in.h>
-#include <stdarg.h>
-#include <stdio.h>
-#include <string.h>
-#include <time.h>
-#include <unistd.h>
-
-#include "limits.h"
+#include "worker.h"
 
 static int to = STDERR_FILENO, queries_to = -1;
 static unsigned sample;        /* set before the workers start */
@@ -35,11 +23,9 @@ int log_open(const char *path, const char *query_path, unsigned every) {
 int log_line(const char *format, ...) {
     char line[2048];
     size_t length = 0;
-    if (to != STDERR_FILENO) {
-        time_t now = time(NULL);
-        struct tm parts;
-        length = strftime(line, sizeof line, "%Y-%m-%dT%H:%M:%SZ ", gmtime_r(&now, &parts));
-    }
+    time_t now = time(NULL);
+    struct tm parts;
+    if (to != STDERR_FILENO) length = strftime(line, sizeof line, "%Y-%m-%dT%H:%M:%SZ ", gmtime_r(&now, &parts));
     length += snprintf(line + length, sizeof line - length, "ningkraetd: ");
     va_list values;
     va_start(values, format);
@@ -51,13 +37,11 @@ int log_line(const char *format, ...) {
     return -1;
 }
 
-/* Writes the name of a question as text, each octet outside of letters, digits, - and _ as \\DDD, so that it is JSON too. */
-static size_t put_name(char *text, const uint8_t *query, size_t query_length, size_t *behind) {
+size_t name_text(char *text, const uint8_t *query, size_t query_length, size_t *behind) {
     size_t length = 0, at = 12, end = name_end(query, query_length);
     while (at < end) {
         for (uint8_t left = query[at++]; left && at < end; left--, at++) {
-            int c = query[at];
-            int is_plain = (c >= 'a' && c <= 'z') || (c >= 'A' && c <= 'Z') || (c >= '0' && c <= '9') || c == '-' || c == '_' || c == '*';
+            int c = query[at], is_plain = c && c < 128 && (isalnum(c) || strchr("-_*", c));
             length += sprintf(text + length, is_plain ? "%c" : "\\\\%03d", c);
         }
         text[length++] = '.';
@@ -68,12 +52,11 @@ static size_t put_name(char *text, const uint8_t *query, size_t query_length, si
     return length;
 }
 
-void log_query(const struct sockaddr *client, uint32_t transport, const uint8_t *query, size_t query_length, size_t written,
-               const nk_summary *summary) {
+void log_query(const struct sockaddr *client, uint32_t transport, const uint8_t *query, size_t query_length, size_t written, const nk_summary *summary) {
     if (!sample || query_length < 17 || atomic_fetch_add_explicit(&queries, 1, memory_order_relaxed) % sample) return;
-    char name[5 * 255 + 2], host[INET6_ADDRSTRLEN] = "", line[4096];
+    char name[NAME_TEXT], host[INET6_ADDRSTRLEN] = "", line[4096];
     size_t behind, length_of_address;
-    const char *zone = name + put_name(name, query, query_length, &behind), *quote = summary->origin_labels ? "\"" : "";
+    const char *zone = name + name_text(name, query, query_length, &behind), *quote = summary->origin_labels ? "\"" : "";
     for (size_t labels = summary->origin_labels; zone > name && (zone[-1] != '.' || --labels); zone--) {}
     unsigned type = behind + 2 <= query_length ? query[behind] << 8 | query[behind + 1] : 0;
     inet_ntop(client->sa_family, client_octets(client, &length_of_address), host, sizeof host);

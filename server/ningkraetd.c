@@ -1,26 +1,15 @@
 /* ningkraetd [-t] [-c FILE]: answers DNS from zone files, by the library ningkraet. README.md says how it is configured and run.
- *
  * This thread reads zones, takes signals and commands; each worker is a thread that answers from a copy of the zones. */
-#include <errno.h>
 #include <grp.h>
 #include <poll.h>
 #include <pwd.h>
 #include <signal.h>
-#include <stdio.h>
-#include <stdlib.h>
-#include <string.h>
 #include <sys/inotify.h>
 #include <sys/prctl.h>
 #include <sys/resource.h>
 #include <sys/signalfd.h>
-#include <unistd.h>
 
-#include "config.h"
 #include "control.h"
-#include "limits.h"
-#include "log.h"
-#include "sockets.h"
-#include "worker.h"
 #include "zones.h"
 
 enum { SIGNALS, CONTROL, FILES, POLLED };
@@ -116,7 +105,7 @@ static int serve(const sigset_t *handled) {
     if (config.control && control < 0) return 2;
     if (config.control && config.user && getpwnam(config.user) && chown(config.control, getpwnam(config.user)->pw_uid, -1)) log_line("%s: %s", config.control, strerror(errno));
     if (limits_begin(&config) || drop_privileges()) return 2;
-    if (log_open(config.log, config.query_log, config.query_log_every) || zones_begin(&config, watch)) return 2;
+    if (log_open(config.log, config.query_log, config.query_log_every) || journals_begin(&config) || zones_begin(&config, watch)) return 2;
     if (config.watch && (watcher = inotify_init1(IN_NONBLOCK | IN_CLOEXEC)) < 0) log_line("files aren't watched: %s", strerror(errno));
     renew(1);
     int signals = signalfd(-1, handled, SFD_CLOEXEC);
@@ -135,6 +124,7 @@ static int serve(const sigset_t *handled) {
     free(workers);
     limits_free();
     zones_free();
+    journals_free();
     return started ? 0 : 2;
 }
 
@@ -149,11 +139,10 @@ static int test(void) {
 int main(int argc, char **argv) {
     const char *path = "/etc/ningkraet/ningkraetd.conf";
     int is_test = 0, option;
-    while ((option = getopt(argc, argv, "c:t")) != -1) {
+    while ((option = getopt(argc, argv, "c:t")) != -1)
         if (option == 'c') path = optarg;
         else if (option == 't') is_test = 1;
         else argc = 0;
-    }
     if (optind != argc) return fprintf(stderr, "usage: ningkraetd [-t] [-c FILE]\n"), 2;
     sigset_t handled;
     sigemptyset(&handled);

@@ -1,15 +1,5 @@
 /* Opens sockets. */
-#include "sockets.h"
-
-#include <errno.h>
-#include <fcntl.h>
-#include <netinet/in.h>
-#include <stdlib.h>
-#include <string.h>
-#include <sys/un.h>
-#include <unistd.h>
-
-#include "log.h"
+#include "control.h"
 
 enum { FIRST_INHERITED = 3 };
 
@@ -40,9 +30,8 @@ static int open_one(const struct address *address, int kind, int is_shared) {
 }
 
 int sockets_open(const struct config *config, int is_shared, int *sockets) {
-    for (size_t i = 0; i < config->listen_count; i++)
-        if ((sockets[2 * i] = open_one(&config->listen[i], SOCK_DGRAM, is_shared)) < 0 || (sockets[2 * i + 1] = open_one(&config->listen[i], SOCK_STREAM, is_shared)) < 0)
-            return -1;
+    for (size_t i = 0; i < 2 * config->listen_count; i++)
+        if ((sockets[i] = open_one(&config->listen[i / 2], i % 2 ? SOCK_STREAM : SOCK_DGRAM, is_shared)) < 0) return -1;
     return 0;
 }
 

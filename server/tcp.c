@@ -1,17 +1,7 @@
 /* Queries by TCP (RFC 7766): a connection may ask many at once, is answered in turns by time, and is closed once it is idle. */
-#include "tcp.h"
-
-#include <errno.h>
-#include <netinet/in.h>
 #include <netinet/tcp.h>
-#include <stdlib.h>
-#include <string.h>
-#include <sys/epoll.h>
-#include <sys/socket.h>
-#include <unistd.h>
 
-#include "limits.h"
-#include "log.h"
+#include "worker.h"
 
 enum {
     FIRST = 512,          /* octets of a connection's buffer once something comes; it grows with what is sent */
@@ -29,8 +19,7 @@ struct connection {
     struct sockaddr_storage client;
     uint64_t moved;           /* the microsecond in which a whole query came, or octets went out: no client holds it by octets alone */
     uint32_t events;          /* those that the kernel is asked for */
-    unsigned is_busy : 1, is_ended : 1;   /* an answer is due; the client has closed its half, and is still answered (section 6.2.4) */
-    unsigned is_sending : 1;              /* `transfer` has messages, which come before the next query's answer */
+    unsigned is_busy, is_ended, is_sending;   /* by an answer that is due; the client has closed its half (section 6.2.4); messages of `transfer` come first */
     nk_transfer transfer;
     uint8_t *in, *unsent;     /* of `unsent` the client hasn't read `left` octets from `sent` on: until it has, no more of its queries are answered */
     size_t size, have, left, sent;
@@ -39,12 +28,6 @@ struct connection {
 static void enter(struct connection *c, struct queue *list) {
     c->list = list;
     TAILQ_INSERT_TAIL(list, c, at);
-}
-
-/* Puts a connection behind those that wait to be answered. */
-static void wait_busy(struct worker *worker, struct connection *c) {
-    if (!c->is_busy) TAILQ_INSERT_TAIL(&worker->busy, c, at_busy);
-    c->is_busy = 1;
 }
 
 static void leave_busy(struct worker *worker, struct connection *c) {
@@ -76,22 +59,19 @@ static int evict(struct worker *worker, const struct connection *newest) {
     return 1;
 }
 
-/* Takes the next client and turns it away, by the descriptor that is kept for that: otherwise it would wake the worker for ever. */
-static void turn_away(struct worker *worker, struct source *listener) {
-    close(worker->spare);
-    int fd = accept4(listener->fd, NULL, NULL, SOCK_CLOEXEC);
-    if (fd >= 0) close(fd);
-    worker->spare = dup(worker->epoll);
-}
-
 void tcp_accept(struct worker *worker, struct source *listener) {
+    listener->has_come = 0;
     for (int taken = 0; taken < ACCEPTED; taken++) {
         struct sockaddr_storage client;
         socklen_t length = sizeof client;
         int one = 1, fd = accept4(listener->fd, (struct sockaddr *)&client, &length, SOCK_NONBLOCK | SOCK_CLOEXEC);
         int is_short = fd < 0 && (errno == EMFILE || errno == ENFILE || errno == ENOMEM || errno == ENOBUFS);
         if (is_short && evict(worker, NULL)) continue;
-        if (is_short) turn_away(worker, listener);
+        if (is_short) {   /* the next client is turned away, by the descriptor that is kept for that: otherwise it would wake the worker for ever */
+            close(worker->spare);
+            if ((worker->spare = accept4(listener->fd, NULL, NULL, SOCK_CLOEXEC)) >= 0) close(worker->spare);
+            worker->spare = dup(worker->epoll);
+        }
         if (fd < 0) return;
         atomic_uint *tally = limits_enter((struct sockaddr *)&client);
         struct connection *c = tally ? calloc(1, sizeof *c) : NULL;
@@ -101,7 +81,7 @@ void tcp_accept(struct worker *worker, struct source *listener) {
             close(fd);
             continue;
         }
-        *c = (struct connection){.source = {SOURCE_CONNECTION, fd}, .client = client, .tally = tally, .moved = microseconds(), .events = EPOLLIN};
+        *c = (struct connection){.source = {fd, 1, 0}, .client = client, .tally = tally, .moved = microseconds(), .events = EPOLLIN};
         enter(c, &worker->silent);
         setsockopt(fd, IPPROTO_TCP, TCP_NODELAY, &one, sizeof one);
         count(&worker->counters.tcp_accepted, 1);
@@ -115,8 +95,7 @@ static int is_due(const struct connection *c, size_t at) {
     return c->is_sending || (c->have - at >= 2 && c->have - at - 2 >= (size_t)(c->in[at] << 8 | c->in[at + 1]));
 }
 
-/* Answers whole queries that were read, until none is left, the client has TURN octets to read, or SLICE is over. Tells whether the
- * connection goes on. */
+/* Answers whole queries that were read, until none is left, the client has TURN octets to read, or SLICE is over. Tells whether the connection goes on. */
 static int answer_frames(struct worker *worker, struct connection *c) {
     static _Thread_local uint8_t out[TURN + FRAME];
     const struct sockaddr *client = (void *)&c->client;
@@ -188,18 +167,15 @@ static void go_on(struct worker *worker, struct connection *c, int goes_on) {
         close_connection(worker, c);
         return;
     }
-    if (waits) wait_busy(worker, c);
+    if (waits && !c->is_busy) TAILQ_INSERT_TAIL(&worker->busy, c, at_busy);
+    c->is_busy |= waits;
     uint32_t events = c->left ? EPOLLOUT : waits || c->is_ended ? 0 : EPOLLIN;
     if (events != c->events && !worker_watch(worker, &c->source, events, 0)) c->events = events;
 }
 
 void tcp_event(struct worker *worker, struct source *source, uint32_t events) {
     struct connection *c = (struct connection *)source;
-    int goes_on = 1;
-    if (c->left) goes_on = send_more(c);
-    else if (!is_due(c, 0)) goes_on = read_more(c);
-    else if (events & (EPOLLERR | EPOLLHUP)) goes_on = 0;
-    go_on(worker, c, goes_on);
+    go_on(worker, c, c->left ? send_more(c) : is_due(c, 0) ? !(events & (EPOLLERR | EPOLLHUP)) : read_more(c));
 }
 
 void tcp_answer(struct worker *worker, uint64_t began) {

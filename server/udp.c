@@ -1,46 +1,11 @@
 /* Queries by UDP: read and answered in batches, each answer from the address that its query was sent to. */
-#include "udp.h"
-
-#include <netinet/in.h>
-#include <stdlib.h>
-#include <string.h>
-
-#include "limits.h"
-#include "log.h"
-
-enum {
-    BATCH = 32,
-    QUERY = 4096,      /* octets of a query that are read: a longer one is dropped */
-    CONTROL = CMSG_SPACE(sizeof(struct in6_pktinfo)) > CMSG_SPACE(sizeof(struct in_pktinfo)) ? CMSG_SPACE(sizeof(struct in6_pktinfo)) : CMSG_SPACE(sizeof(struct in_pktinfo))
-};
-
-struct udp {
-    struct source source;
-    int count, at;                     /* datagrams that were read by one call, of which those from `at` on are still to be answered */
-    struct mmsghdr read[BATCH];
-    struct iovec rooms[BATCH];
-    struct sockaddr_storage clients[BATCH];
-    _Alignas(struct cmsghdr) uint8_t controls[BATCH][CONTROL];
-    uint8_t octets[BATCH][QUERY], responses[BATCH][1232];
-};
-
-struct udp *udp_new(const int *sockets, size_t count) {
-    struct udp *udp = calloc(count, sizeof *udp);
-    for (size_t at = 0; udp && at < count; at++) udp[at].source = (struct source){SOURCE_UDP, sockets[2 * at]};
-    return udp;
-}
-
-struct source *udp_source(struct udp *udp, size_t at) { return &udp[at].source; }
-
-void udp_free(struct udp *udp) { free(udp); }
-
-int udp_waits(const struct udp *udp, size_t at) { return udp[at].at < udp[at].count; }
+#include "worker.h"
 
 static void read_datagrams(struct udp *udp) {
     for (int i = 0; i < BATCH; i++) {
-        udp->rooms[i] = (struct iovec){udp->octets[i], QUERY};
+        udp->rooms[i] = (struct iovec){udp->octets[i], DATAGRAM};
         udp->read[i].msg_hdr = (struct msghdr){.msg_name = &udp->clients[i], .msg_namelen = sizeof udp->clients[i], .msg_iov = &udp->rooms[i],
-                                               .msg_iovlen = 1, .msg_control = udp->controls[i], .msg_controllen = CONTROL};
+                                               .msg_iovlen = 1, .msg_control = udp->controls[i], .msg_controllen = sizeof udp->controls[i]};
     }
     int count = recvmmsg(udp->source.fd, udp->read, BATCH, MSG_DONTWAIT, NULL);
     udp->count = count < 0 ? 0 : count;   /* (an error of an earlier response, as ICMP brings it, is one of the kernel's calls) */
@@ -87,12 +52,12 @@ static size_t answer(struct worker *worker, struct udp *udp, int at, uint8_t *re
     return written;
 }
 
-void udp_answer(struct worker *worker, struct udp *all, size_t which) {
-    struct udp *udp = &all[which];
+void udp_answer(struct worker *worker, struct udp *udp) {
     struct mmsghdr out[BATCH];
     struct iovec to_send[BATCH];
     int answers = 0;
     time_t now = time(NULL);
+    udp->source.has_come = 0;
     if (udp->at >= udp->count) read_datagrams(udp);
     for (uint64_t until = microseconds() + SHARE; udp->at < udp->count;) {
         struct msghdr *client = &udp->read[udp->at].msg_hdr;
@@ -107,8 +72,6 @@ void udp_answer(struct worker *worker, struct udp *all, size_t which) {
         if (microseconds() >= until) break;
     }
     for (int sent = 0, more; sent < answers; sent += more)
-        if ((more = sendmmsg(udp->source.fd, out + sent, answers - sent, MSG_DONTWAIT)) <= 0) {
-            count(&worker->counters.unsent, 1);   /* lost, as by a network */
-            more = 1;
-        }
+        if ((more = sendmmsg(udp->source.fd, out + sent, answers - sent, MSG_DONTWAIT)) <= 0)
+            more = 1, count(&worker->counters.unsent, 1);   /* lost, as by a network */
 }

@@ -1,16 +1,5 @@
 /* The loop of a worker. */
 #include "worker.h"
-
-#include <errno.h>
-#include <stdatomic.h>
-#include <stdlib.h>
-#include <string.h>
-#include <sys/epoll.h>
-#include <unistd.h>
-
-#include "log.h"
-#include "tcp.h"
-#include "udp.h"
 #include "zones.h"
 
 enum { EVENTS = 256, SECOND = 1000000, DRAINING = SECOND };   /* DRAINING: how long responses that wait are still sent at the end */
@@ -31,19 +20,19 @@ int worker_watch(struct worker *worker, struct source *source, uint32_t events, 
 }
 
 int worker_begin(struct worker *worker, const struct config *config, const int *sockets, size_t address_count) {
-    *worker = (struct worker){.config = config, .zones = NK_ZONES_NONE, .access = NK_ACCESS_NONE, .seen = -1ul, .address_count = address_count, .epoll = epoll_create1(EPOLL_CLOEXEC)};
+    *worker = (struct worker){.config = config, .zones = NK_ZONES_NONE, .access = NK_ACCESS_NONE, .updates = NK_UPDATES_NONE, .seen = -1ul, .address_count = address_count, .epoll = epoll_create1(EPOLL_CLOEXEC)};
     TAILQ_INIT(&worker->silent);
     TAILQ_INIT(&worker->asking);
     TAILQ_INIT(&worker->busy);
     worker->spare = dup(worker->epoll);
-    worker->udp = udp_new(sockets, address_count);
+    worker->udp = calloc(address_count, sizeof *worker->udp);
     worker->listeners = calloc(address_count, sizeof *worker->listeners);
     if (nk_zones_new(&worker->zones) != NK_DONE || worker->epoll < 0 || !worker->udp || !worker->listeners)
         return log_line("a worker can't be made: %s", worker->epoll < 0 ? strerror(errno) : "out of memory");
-    if (config_access(config, &worker->access)) return -1;
+    if (config_access(config, &worker->access, &worker->updates)) return -1;
     for (size_t i = 0; i < address_count; i++) {
-        worker->listeners[i] = (struct source){SOURCE_LISTENER, sockets[2 * i + 1]};
-        if (worker_watch(worker, udp_source(worker->udp, i), EPOLLIN | EPOLLEXCLUSIVE, 1) || worker_watch(worker, &worker->listeners[i], EPOLLIN | EPOLLEXCLUSIVE, 1))
+        worker->udp[i].source.fd = sockets[2 * i], worker->listeners[i].fd = sockets[2 * i + 1];
+        if (worker_watch(worker, &worker->udp[i].source, EPOLLIN | EPOLLEXCLUSIVE, 1) || worker_watch(worker, &worker->listeners[i], EPOLLIN | EPOLLEXCLUSIVE, 1))
             return log_line("a socket can't be watched: %s", strerror(errno));
     }
     return 0;
@@ -51,28 +40,22 @@ int worker_begin(struct worker *worker, const struct config *config, const int *
 
 /* Answers what has come. Connections are accepted last, since that may close others. */
 static void take_turn(struct worker *worker, struct epoll_event *events, int ready) {
-    uint8_t is_readable[worker->address_count];
-    memset(is_readable, 0, worker->address_count);
     uint64_t began = microseconds();
     for (int i = 0; i < ready; i++) {
         struct source *source = events[i].data.ptr;
-        if (source->kind == SOURCE_CONNECTION) tcp_event(worker, source, events[i].events);
-        else if (source->kind == SOURCE_UDP)
-            for (size_t at = 0; at < worker->address_count; at++) is_readable[at] |= source == udp_source(worker->udp, at);
+        if (source->is_connection) tcp_event(worker, source, events[i].events);
+        else source->has_come = 1;
     }
     tcp_answer(worker, began);
     for (size_t at = 0; at < worker->address_count; at++)
-        if (is_readable[at] || udp_waits(worker->udp, at)) udp_answer(worker, worker->udp, at);
-    for (int i = 0; i < ready; i++) {
-        struct source *source = events[i].data.ptr;
-        for (size_t at = 0; at < worker->address_count; at++)
-            if (source == &worker->listeners[at]) tcp_accept(worker, source);
-    }
+        if (worker->udp[at].source.has_come || worker->udp[at].at < worker->udp[at].count) udp_answer(worker, &worker->udp[at]);
+    for (size_t at = 0; at < worker->address_count; at++)
+        if (worker->listeners[at].has_come) tcp_accept(worker, &worker->listeners[at]);
 }
 
 static int has_more(const struct worker *worker) {
     for (size_t at = 0; at < worker->address_count; at++)
-        if (udp_waits(worker->udp, at)) return 1;
+        if (worker->udp[at].at < worker->udp[at].count) return 1;
     return !TAILQ_EMPTY(&worker->busy);
 }
 
@@ -99,7 +82,8 @@ int worker_start(struct worker *worker) { return pthread_create(&worker->thread,
 void worker_free(struct worker *worker) {
     nk_zones_free(&worker->zones);
     nk_access_free(&worker->access);
-    udp_free(worker->udp);
+    nk_updates_free(&worker->updates);
+    free(worker->udp);
     free(worker->listeners);
     if (worker->epoll >= 0) close(worker->epoll);
     if (worker->spare >= 0) close(worker->spare);

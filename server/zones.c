@@ -1,20 +1,10 @@
 /* Zones and their files. */
-#include "zones.h"
-
-#include <ctype.h>
 #include <dirent.h>
-#include <errno.h>
-#include <pthread.h>
-#include <stdatomic.h>
-#include <stdio.h>
-#include <stdlib.h>
-#include <string.h>
-#include <sys/stat.h>
-#include <time.h>
 
 #include "log.h"
+#include "zones.h"
 
-enum { TOLD = 1 << 16, TRIES = 100, KEPT = 20000 };   /* KEPT: records of what changed in a zone, for those who ask for that alone */
+enum { TOLD = 1 << 16, TRIES = 100, PATIENCE = 1000, KEPT = 20000 };   /* PATIENCE: milliseconds that an update waits for another; KEPT: records of changes */
 
 struct file {
     char *path;
@@ -25,8 +15,8 @@ struct zone {
     char *origin, *fault;             /* the origin in lower case and without its final dot */
     struct file file, *included;      /* its file, and those that are read with it ($INCLUDE) */
     size_t included_count;
-    uint32_t serial;
-    unsigned is_served : 1, is_of_folder : 1, is_there : 1, is_expired : 1;
+    struct journal *journal;          /* NULL where it takes no updates */
+    unsigned is_served : 1, is_of_folder : 1, is_there : 1, is_gone : 1, is_expired : 1, is_loaded : 1;   /* `is_loaded`: from its file, in this renewal */
 };
 
 static const struct config *config;
@@ -36,17 +26,9 @@ static size_t zone_count;
 static nk_zones loaded = NK_ZONES_NONE;
 static nk_steps steps = NK_STEPS_NONE; /* what changed in zones from version to version */
 static pthread_mutex_t lock = PTHREAD_MUTEX_INITIALIZER, noting = PTHREAD_MUTEX_INITIALIZER;   /* of `loaded`; of `steps` */
+static pthread_mutex_t updating = PTHREAD_MUTEX_INITIALIZER;   /* of the journals, and so of who puts zones that take updates in place of others */
 static atomic_ulong renewed;
 static atomic_int holders, behind;    /* workers that have zones, and those of them that have yet to take the new ones */
-
-static char *lower(const char *origin) {
-    char *copy = strdup(origin);
-    if (!copy) return NULL;
-    for (char *at = copy; *at; at++) *at = tolower((unsigned char)*at);
-    size_t length = strlen(copy);
-    if (length > 1 && copy[length - 1] == '.' && copy[length - 2] != '\\') copy[length - 1] = 0;
-    return copy;
-}
 
 /* The place of an origin in the list: that of its zone, or where it would stand. */
 static size_t place_of(const char *origin) {
@@ -76,7 +58,7 @@ static void free_zone(struct zone *zone) {
 }
 
 /* Puts a zone that isn't there yet into the list, with no file read. NULL: no memory. */
-static struct zone *put(const char *origin, const char *path, int is_of_folder) {
+static struct zone *put_zone(const char *origin, const char *path, int is_of_folder) {
     struct zone *zone = calloc(1, sizeof *zone), **grown = realloc(zones, (zone_count + 1) * sizeof *zones);
     if (grown) zones = grown;
     if (!zone || !grown || !(zone->origin = strdup(origin)) || !(zone->file.path = strdup(path))) {
@@ -84,6 +66,7 @@ static struct zone *put(const char *origin, const char *path, int is_of_folder) 
         log_line("%s: out of memory", origin);
         return NULL;
     }
+    zone->journal = journal_of(origin);
     zone->is_of_folder = is_of_folder;
     zone->is_there = 1;
     size_t at = place_of(origin);
@@ -95,11 +78,6 @@ static void set_fault(struct zone *zone, const char *text) {
     free(zone->fault);
     zone->fault = text ? strdup(text) : NULL;
     if (text) log_line("%s: %s%s", zone->origin, text, zone->is_served ? "; the zone stays as it was" : "");
-}
-
-/* Logs the lines that a call of the library told, which begin with the name of a file. */
-static void log_lines(char *told) {
-    for (char *line; (line = strsep(&told, "\n")) && *line;) log_line("%s", line);
 }
 
 /* Has changes of a file told, by its folder. */
@@ -131,11 +109,10 @@ static uint32_t put_file(nk_files *files, struct zone *zone, const char *path, s
 static uint32_t load_text(nk_zones *into, struct zone *zone, const uint8_t *text, char *told, size_t *written) {
     static char path[1 << 17];
     nk_files files = NK_FILES_NONE;
-    const char *origin = zone->origin, *file = zone->file.path;
     uint32_t code;
     size_t length;
     do {
-        code = nk_zones_load_files(into, &files, (uint8_t *)origin, strlen(origin), (uint8_t *)file, strlen(file), text, zone->file.read.st_size, (uint8_t *)told, TOLD, written);
+        code = nk_zones_load_files(into, &files, OCTETS(zone->origin), OCTETS(zone->file.path), text, zone->file.read.st_size, (uint8_t *)told, TOLD, written);
         if (code != NK_WANTS_FILES) break;
         while ((code = nk_files_next(&files, (uint8_t *)path, sizeof path - 1, &length)) == NK_DONE) {
             path[length] = 0;
@@ -149,7 +126,7 @@ static uint32_t load_text(nk_zones *into, struct zone *zone, const uint8_t *text
 /* Keeps what changed in a zone, which these have or haven't any more. Where memory is short nothing is kept: no version is to be left out. */
 static void note(nk_zones *from, const char *origin) {
     pthread_mutex_lock(&noting);
-    if (nk_steps_note(&steps, from, (uint8_t *)origin, strlen(origin)) == NK_NO_MEMORY) {
+    if (nk_steps_note(&steps, from, OCTETS(origin)) == NK_NO_MEMORY) {
         log_line("%s: no memory to keep what changed", origin);
         nk_steps_free(&steps);
         nk_steps_new(&steps, KEPT);
@@ -157,11 +134,26 @@ static void note(nk_zones *from, const char *origin) {
     pthread_mutex_unlock(&noting);
 }
 
+/* Takes a lock that another thread has for some milliseconds, or longer for a large zone. Tells whether it has it, within a time. */
+static int lock_soon(pthread_mutex_t *it, int tries) {
+    for (; pthread_mutex_trylock(it); tries--)
+        if (!tries || nanosleep(&(struct timespec){0, 1000000}, NULL)) return 0;
+    return 1;
+}
+
 void zones_shorten(nk_transfer *transfer, const uint8_t *query, size_t length) {
-    for (int i = 0; pthread_mutex_trylock(&noting); i++)   /* another worker has it for some milliseconds; a large zone that is noted, for longer */
-        if (i == TRIES || nanosleep(&(struct timespec){0, 1000000}, NULL)) return;
+    if (!lock_soon(&noting, TRIES)) return;
     nk_transfer_steps(transfer, &steps, query, length);
     pthread_mutex_unlock(&noting);
+}
+
+/* Ends the loading of a zone: by what its journal has, if it takes updates, or else by its answers that are kept. */
+static uint32_t settle(nk_zones *into, struct zone *zone) {
+    uint32_t code = zone->journal ? journal_replay(zone->journal, into) : NK_DONE;
+    if (code == NK_DONE) note(into, zone->origin);
+    if (!zone->journal && config->ready_answers && nk_zones_prepare(into, OCTETS(zone->origin)) == NK_NO_MEMORY)
+        log_line("%s: no memory to keep its answers", zone->origin);
+    return code;
 }
 
 /* Reads the file of a zone, and loads it. Tells whether it is served now as the file has it. */
@@ -169,27 +161,20 @@ static int load(nk_zones *into, struct zone *zone) {
     static char told[TOLD + 1];
     size_t written = 0;
     drop_included(zone);
+    if (zone->journal && !journal_is_readable(zone->journal)) return set_fault(zone, "its journal can't be read"), 0;
     uint8_t *text = octets_of(zone->file.path, &zone->file.read);
     if (!text) return set_fault(zone, strerror(errno)), 0;
     uint32_t code = load_text(into, zone, text, told, &written);
     free(text);
     told[written] = 0;
-    if (code == NK_DONE) {
-        log_lines(told);
-        set_fault(zone, NULL);
-        zone->is_served = 1;
-        nk_zones_serial(into, (uint8_t *)zone->origin, strlen(zone->origin), &zone->serial);
-        note(into, zone->origin);
-        if (config->ready_answers && nk_zones_prepare(into, (uint8_t *)zone->origin, strlen(zone->origin)) == NK_NO_MEMORY)
-            log_line("%s: no memory to keep its answers", zone->origin);
-        return 1;
-    }
+    char *more = told, *first = code == NK_DONE ? NULL : strsep(&more, "\n");
+    set_fault(zone, code == NK_DONE || code == NK_BAD_TEXT ? first : code == NK_BAD_NAME ? "its origin isn't a domain name" : code == NK_NO_MEMORY ? "out of memory" : code == NK_NO_ROOM ? "it includes a file whose name is too long" : "the name of its file isn't UTF-8");
+    for (char *line; (line = strsep(&more, "\n")) && *line;) log_line("%s", line);   /* each begins with the name of a file */
     if (code == NK_NO_MEMORY) zone->file.read = (struct stat){0};   /* it is tried again, also if it doesn't change */
-    char *more = told;
-    strsep(&more, "\n");
-    set_fault(zone, code == NK_BAD_TEXT ? told : code == NK_BAD_NAME ? "its origin isn't a domain name" : code == NK_NO_MEMORY ? "out of memory" : code == NK_NO_ROOM ? "it includes a file whose name is too long" : "the name of its file isn't UTF-8");
-    if (more) log_lines(more);
-    return 0;
+    if (code != NK_DONE) return 0;
+    zone->is_served = zone->is_loaded = 1;
+    if (!zone->journal) settle(into, zone);   /* the others once no update can come meanwhile */
+    return 1;
 }
 
 static int is_changed(const struct file *file) {
@@ -203,15 +188,14 @@ static int is_changed(const struct file *file) {
 /* Whether FILE.expired is beside the file of a zone: a secondary has it there while the zone has expired (RFC 1034 section 4.3.5). */
 static int is_marked(const struct zone *zone) {
     char path[4096];
-    struct stat mark;
     snprintf(path, sizeof path, "%s.expired", zone->file.path);
-    return !stat(path, &mark);
+    return !access(path, F_OK);
 }
 
 /* Loads a zone, and has it expire where its file is marked so. Tells whether what is served changes. */
 static int load_or_expire(nk_zones *into, struct zone *zone) {
     int is_new = load(into, zone);
-    uint32_t code = is_marked(zone) ? nk_zones_expire(into, (uint8_t *)zone->origin, strlen(zone->origin)) : (uint32_t)NK_NO_ZONE;
+    uint32_t code = is_marked(zone) ? nk_zones_expire(into, OCTETS(zone->origin)) : (uint32_t)NK_NO_ZONE;
     if (is_new || code == NK_DONE) zone->is_expired = code == NK_DONE;
     if (code == NK_DONE) log_line("%s has expired: it is answered with SERVFAIL", zone->origin);
     if (code == NK_NO_MEMORY) set_fault(zone, "out of memory");   /* it is tried again, since the mark tells otherwise */
@@ -236,53 +220,127 @@ static int look_into(const char *folder) {
         char path[4096];
         snprintf(path, sizeof path, "%s/%s", folder, entry->d_name);
         entry->d_name[length - 5] = 0;
-        char *origin = lower(entry->d_name);
-        struct zone *zone = origin ? find(origin) : NULL;
+        lower(entry->d_name);
+        struct zone *zone = find(entry->d_name);
         if (zone) zone->is_there = 1;
-        else if (origin) put(origin, path, 1);
-        free(origin);
+        else put_zone(entry->d_name, path, 1);
     }
     closedir(opened);
     return 0;
 }
 
-size_t zones_renew(int all) {
-    nk_zones fresh = NK_ZONES_NONE, old;
+/* Has these zones served, and gives those that were. */
+static void publish(nk_zones *fresh) {
     pthread_mutex_lock(&lock);
+    nk_zones old = loaded;
+    loaded = *fresh, *fresh = old;
+    atomic_store(&behind, atomic_load(&holders));
+    atomic_fetch_add(&renewed, 1);
+    pthread_mutex_unlock(&lock);
+}
+
+/* Has zones served that were made of those with this number, with all updates that were answered meanwhile; while none is taken. */
+static uint32_t publish_updated(nk_zones *fresh, unsigned long number) {
+    uint32_t code = NK_DONE;
+    pthread_mutex_lock(&updating);
+    for (size_t i = 0; i < zone_count && code == NK_DONE; i++) {
+        struct zone *zone = zones[i];
+        if (zone->journal && !zone->is_gone && !zone->is_expired && (zone->is_loaded || zone->journal->changed > number)) code = settle(fresh, zone);
+    }
+    if (code == NK_DONE) publish(fresh);
+    pthread_mutex_unlock(&updating);
+    return code;
+}
+
+size_t zones_renew(int all) {
+    nk_zones fresh = NK_ZONES_NONE;
+    pthread_mutex_lock(&lock);
+    unsigned long number = atomic_load(&renewed);
     uint32_t code = nk_zones_copy(&loaded, &fresh);
     pthread_mutex_unlock(&lock);
     size_t changes = 0, faults = 0, kept = 0;
     int can_see = 1;
-    for (size_t i = 0; i < zone_count; i++) zones[i]->is_there = !zones[i]->is_of_folder;
+    for (size_t i = 0; i < zone_count; i++) zones[i]->is_there = !zones[i]->is_of_folder, zones[i]->is_loaded = 0;
     for (size_t i = 0; i < config->folders.count; i++) can_see &= !look_into(config->folders.list[i].name);
     for (size_t i = 0; i < zone_count && code == NK_DONE; i++) {
         struct zone *zone = zones[i];
-        int is_gone = !zone->is_there && can_see;
-        uint32_t dropped = is_gone && zone->is_served ? nk_zones_drop(&fresh, (uint8_t *)zone->origin, strlen(zone->origin)) : (uint32_t)NK_NO_ZONE;
-        if (is_gone && dropped != NK_NO_MEMORY) {
-            log_line("%s isn't served any more", zone->origin);
+        uint32_t dropped = zone->is_there || !can_see ? (uint32_t)NK_NO_MEMORY : zone->is_served ? nk_zones_drop(&fresh, OCTETS(zone->origin)) : (uint32_t)NK_NO_ZONE;
+        if ((zone->is_gone = dropped != NK_NO_MEMORY)) {
             note(&fresh, zone->origin);
             changes += dropped == NK_DONE;
-            free_zone(zone);
             continue;
         }
-        zones[kept++] = zone;
         if (has_changed(zone) || all) changes += load_or_expire(&fresh, zone);
         faults += zone->fault != NULL;
     }
-    if (code != NK_DONE) return log_line("zones can't be read: out of memory"), zone_count;
+    if (code == NK_DONE && changes) code = publish_updated(&fresh, number);
+    if (code != NK_DONE) log_line("zones can't be read: out of memory, or a journal can't be read");
+    for (size_t i = 0; i < zone_count; i++) {
+        struct zone *zone = zones[i];
+        if (code != NK_DONE) zone->file.read = (struct stat){0};   /* it is tried again */
+        if (code == NK_DONE && zone->is_gone) {
+            log_line("%s isn't served any more", zone->origin);
+            free_zone(zone);
+        } else zones[kept++] = zone;
+    }
     zone_count = kept;
-    if (changes) {
-        pthread_mutex_lock(&lock);
-        old = loaded, loaded = fresh, fresh = old;
-        atomic_store(&behind, atomic_load(&holders));
-        atomic_fetch_add(&renewed, 1);
-        pthread_mutex_unlock(&lock);
-        /* The last to let go of a large zone takes a while to free it: rather this thread than a worker. */
-        for (int i = 0; i < TRIES && atomic_load(&behind) > 0; i++) nanosleep(&(struct timespec){0, 10000000}, NULL);
+    /* The last to let go of a large zone takes a while to free it: rather this thread than a worker. */
+    for (int i = 0; changes && i < TRIES && atomic_load(&behind) > 0; i++) nanosleep(&(struct timespec){0, 10000000}, NULL);
+    nk_zones_free(&fresh);
+    return code == NK_DONE ? faults : zone_count;
+}
+
+/* Answers an update that can't be taken now: by SERVFAIL, as of a zone that has expired, and so signed as any other response. */
+static uint32_t fail(nk_zones *own, nk_updates *rules, const nk_message *message, const char *origin, uint8_t *response, size_t size, size_t *written) {
+    nk_zones expired = NK_ZONES_NONE;
+    nk_update none = NK_UPDATE_NONE;
+    size_t framed;
+    if (nk_zones_copy(own, &expired) == NK_DONE) nk_zones_expire(&expired, OCTETS(origin));
+    uint32_t code = nk_update_begin(&none, &expired, rules, message, response, size, written, (uint8_t[1]){0}, 0, &framed);
+    nk_update_free(&none);
+    nk_zones_free(&expired);
+    return code;
+}
+
+/* Writes an update into the journal of its zone, and then has it served. Tells whether it did. */
+static int serve_updated(nk_zones *own, nk_update *update, const char *origin, const uint8_t *frame, size_t length, const nk_message *message) {
+    nk_zones fresh = NK_ZONES_NONE;
+    struct journal *journal = journal_of(origin);
+    int is_done = journal && nk_zones_copy(own, &fresh) == NK_DONE && nk_update_commit(update, &fresh) == NK_DONE && !journal_append(journal, frame, length);
+    if (is_done) {
+        uint32_t serial = 0;
+        char client[INET6_ADDRSTRLEN] = "";
+        note(&fresh, origin);
+        nk_zones_serial(&fresh, OCTETS(origin), &serial);
+        journal->changed = atomic_load(&renewed) + 1;
+        publish(&fresh);
+        log_line("%s is updated to serial %u by %s", origin, serial, inet_ntop(message->address_length == 4 ? AF_INET : AF_INET6, message->address, client, sizeof client));
     }
     nk_zones_free(&fresh);
-    return faults;
+    return is_done;
+}
+
+uint32_t zones_update(nk_zones *own, unsigned long *seen, nk_updates *rules, const nk_message *message, uint8_t *response, size_t size, size_t *written) {
+    nk_update update = NK_UPDATE_NONE;
+    char origin[NAME_TEXT];
+    uint8_t small[4096] = {0}, *frame = small;
+    size_t framed = 0, end;
+    uint32_t code = NK_DONE;
+    name_text(origin, message->octets, message->octets_length, &end);
+    lower(origin);
+    int is_held = lock_soon(&updating, PATIENCE), is_good = 0;
+    zones_take(own, seen);
+    if (is_held && *seen == atomic_load(&renewed)) {
+        code = nk_update_begin(&update, own, rules, message, response, size, written, frame, sizeof small, &framed);
+        if (code == NK_NO_ROOM && framed > sizeof small && (frame = calloc(1, framed)))
+            code = nk_update_begin(&update, own, rules, message, response, size, written, frame, framed, &framed);
+        is_good = code != NK_DONE || !framed || serve_updated(own, &update, origin, frame, framed, message);
+    }
+    if (is_held) pthread_mutex_unlock(&updating);
+    if (!is_good) code = fail(own, rules, message, origin, response, size, written);
+    nk_update_free(&update);
+    if (frame != small) free(frame);
+    return code;
 }
 
 int zones_begin(const struct config *given, void (*watch_folder)(const char *folder)) {
@@ -296,18 +354,14 @@ int zones_begin(const struct config *given, void (*watch_folder)(const char *fol
     return 0;
 }
 
-const char *zones_add(const char *origin, const char *path) {
-    char *name = lower(origin);
-    const char *why = !name ? "out of memory" : find(name) ? "there is a zone of this origin" : NULL;
-    if (!why && !put(name, path, 0)) why = "out of memory";
-    free(name);
-    return why;
+const char *zones_add(char *origin, const char *path) {
+    lower(origin);
+    return find(origin) ? "there is a zone of this origin" : put_zone(origin, path, 0) ? NULL : "out of memory";
 }
 
-const char *zones_drop(const char *origin) {
-    char *name = lower(origin);
-    struct zone *zone = name ? find(name) : NULL;
-    free(name);
+const char *zones_drop(char *origin) {
+    lower(origin);
+    struct zone *zone = find(origin);
     if (!zone) return "there is no zone of this origin";
     if (zone->is_of_folder) return "its file is in a folder of zones: take the file away";
     zone->is_of_folder = 1;   /* as one that has left its folder */
@@ -320,12 +374,12 @@ size_t zones_print(char *text, size_t size) {
     for (size_t i = 0; i < zone_count; i++) {
         struct zone *zone = zones[i];
         char serial[16] = "-";
-        if (zone->is_served && !zone->is_expired) snprintf(serial, sizeof serial, "%u", zone->serial);
-        int more = snprintf(text + length, size - length, "%s %s %s%s%s%s\n", zone->origin, serial, zone->file.path, zone->is_expired ? " EXPIRED" : "", zone->fault ? " FAULT " : "", zone->fault ? zone->fault : "");
-        if (more < 0 || (size_t)more >= size - length) break;
-        length += more;
+        uint32_t number;
+        pthread_mutex_lock(&lock);
+        if (!zone->is_expired && nk_zones_serial(&loaded, OCTETS(zone->origin), &number) == NK_DONE) snprintf(serial, sizeof serial, "%u", number);
+        pthread_mutex_unlock(&lock);
+        length += put(text + length, size - length, "%s %s %s%s%s%s\n", zone->origin, serial, zone->file.path, zone->is_expired ? " EXPIRED" : "", zone->fault ? " FAULT " : "", zone->fault ? zone->fault : "");
     }
-    text[length] = 0;
     return length;
 }
 

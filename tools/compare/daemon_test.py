@@ -47,7 +47,14 @@ FAULTS = {
     "cookie-secret 00112233445566778899aabbccddeefg\n": ":1: a secret has 32 hexadecimal digits",
     "cookie-secret 00112233445566778899aabbccddeeff 00\n": ":1: a secret has 32 hexadecimal digits",
     "listen 127.0.0.1 5300\n": ":1: there is neither a zone nor a folder of zones",
-    "zone a b c d e\n": ":1: zone has too many values",
+    "zone a b c d e\n": ":1: zone has a value too many",
+    "update example.com grant key\n": ":1: update needs a value more",
+    "update example.com grant key name\n": ":1: update needs a value more",
+    "update example.com permit key self\n": ":1: 'permit' is neither grant nor deny",
+    "update example.com grant key all\n": ":1: 'all' is none of name, subdomain, self and selfsub",
+    "update example.com grant key self A TYPE65280 B\n": ":1: 'B' isn't a type of records",
+    "update 0/25.example grant key self\n": ":1: '0/25.example' can't be the name of a journal: an origin of letters, digits, - and _ can",
+    "zones /tmp\nupdate example.com grant key self\n": ":2: updates need journals: there is no folder of them",
 }
 
 
