@@ -517,20 +517,26 @@ TESTS = [faults_are_told, both_ways_are_answered, the_address_that_was_asked_ans
          clients_have_limits, descriptors_run_out, responses_have_a_rate, queries_are_logged, floods_are_survived, many_zones_start_soon]
 
 
-def main(folder=None):
+def all_tried(tests, folder, given):
+    """Tries tests of the server over the library of a folder: built once as it is, and once under each sanitizer. `given` is what a test gets besides
+    the room, by the pause of that build. The status is 1 if one failed."""
     folder, failed = folder or peers.program("ningkraet"), 0
     for way, (flags, pause) in SANITIZERS.items():
         with tempfile.TemporaryDirectory(prefix="daemon-") as room:
             peers.ningkraetd(folder, room, *flags)
-            for test in TESTS:
+            for test in tests:
                 try:
-                    test(room, *([pause] if test is floods_are_survived else []))
+                    test(room, *given(test, pause))
                     print(f"{way}: {test.__name__}: ok", flush=True)
                 except (AssertionError, OSError) as wrong:
                     failed += 1
                     print(f"{way}: {test.__name__}: FAILED: {wrong}", flush=True)
-    print(f"{len(SANITIZERS) * len(TESTS) - failed} passed, {failed} failed")
+    print(f"{len(SANITIZERS) * len(tests) - failed} passed, {failed} failed")
     return 1 if failed else 0
+
+
+def main(folder=None):
+    return all_tried(TESTS, folder, lambda test, pause: [pause] if test is floods_are_survived else [])
 
 
 if __name__ == "__main__":

@@ -11,7 +11,6 @@ import resource
 import signal
 import subprocess
 import sys
-import tempfile
 import threading
 import time
 
@@ -20,7 +19,7 @@ sys.path.append(os.path.dirname(os.path.dirname(os.path.realpath(__file__))))
 
 import frames
 import peers
-from daemon_test import SANITIZERS, Server, address, ask, need, until
+from daemon_test import Server, address, all_tried, ask, need, until
 from keyed_transfers import KEY, KEYS, OTHER, SECRET, judged, signed, wire
 from updates import A, ANY, ANY_CLASS, IN, NOERROR, REFUSED, entry, struct
 
@@ -264,19 +263,7 @@ TESTS = [updates_are_taken, tools_update, journals_are_replayed, what_cannot_be_
 
 
 def main(folder=None, updates="200"):
-    folder, failed = folder or peers.program("ningkraet"), 0
-    for way, (flags, _) in SANITIZERS.items():
-        with tempfile.TemporaryDirectory(prefix="daemon-") as room:
-            peers.ningkraetd(folder, room, *flags)
-            for test in TESTS:
-                try:
-                    test(room, *([int(updates)] if test is kills_lose_nothing else []))
-                    print(f"{way}: {test.__name__}: ok", flush=True)
-                except (AssertionError, OSError) as wrong:
-                    failed += 1
-                    print(f"{way}: {test.__name__}: FAILED: {wrong}", flush=True)
-    print(f"{len(SANITIZERS) * len(TESTS) - failed} passed, {failed} failed")
-    return 1 if failed else 0
+    return all_tried(TESTS, folder, lambda test, _: [int(updates)] if test is kills_lose_nothing else [])
 
 
 if __name__ == "__main__":
