@@ -12,7 +12,7 @@ use zone_proto::Name;
 
 /// A zone after an update, with the serial of the one before it and what its journal gets if one is kept; `before` is the zone before it. Refused as
 /// `write_entry` of `zone_journal` refuses the step from one to the other.
-pub(crate) fn journaled(
+pub fn journaled(
     alloc: Global,
     is_kept: bool,
     before: Option<&Zone>,

@@ -24,8 +24,9 @@ use zone_proto::LowerName;
 use zone_update::{Refusal, Update};
 
 /// Carries out an update beside its zone, one among those of a database, for the owner of a key, and writes the response in place of the octets
-/// of `out`. The message has no TSIG any more. Fails only for lack of memory.
-pub(crate) fn plan(
+/// of `out`, without a TSIG, as [`plan_update`](crate::plan_update) does for a message whose TSIG it found right and took off. Fails only for lack
+/// of memory.
+pub fn plan_for(
     alloc: Global,
     zones: &ZoneDatabase,
     access: &UpdateAccess,
@@ -56,7 +57,7 @@ pub(crate) fn plan(
 
 /// The same for an update that was read.
 #[tactic(auto, using(crate::proofs::Plans::journaled_in))]
-fn plan_asked(
+pub fn plan_asked(
     alloc: Global,
     zones: &ZoneDatabase,
     access: &UpdateAccess,
@@ -196,8 +197,8 @@ fn updated_in(
     }
 }
 
-/// The zone of an origin with these sets.
-fn zone_after(alloc: Global, origin: LowerName, after: RecordMap) -> Result<Zone, AllocError>
+/// The zone of an origin with these sets. Fails only for lack of memory.
+pub fn zone_after(alloc: Global, origin: LowerName, after: RecordMap) -> Result<Zone, AllocError>
     ensures { IfOk result (λ z. z ≡ zone_of_records origin after) }
 {
     // That they are those of a zone is told where they are lent.

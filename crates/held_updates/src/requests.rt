@@ -8,7 +8,7 @@ ghost use Rattle.held_updates.specs.Planning.{is_update, signing_of, PlansAs, Pl
 
 use crate::access::UpdateAccess;
 use crate::planned::PlannedUpdate;
-use crate::planning::{plan, refuse};
+use crate::planning::{plan_for, refuse};
 use message_reading::{Header, read_header};
 use message_tsig::{Checked, Key, ResponseSigner, Tsig, TsigError, check_request, tsig_size};
 use std::alloc::{AllocError, Global};
@@ -80,8 +80,8 @@ fn plan_header(
     }
 }
 
-/// Whether a header is that of an update, and no response.
-fn is_update(header: Header) -> bool
+/// Whether a header is that of an update (RFC 2136 section 1.3), and no response.
+pub fn is_update(header: Header) -> bool
     ensures { result ≡ is_update header }
 {
     !header.is_response && header.opcode == OPCODE
@@ -130,7 +130,7 @@ fn plan_checked(
     ensures journaled { IfOk result (IsPlanJournaled is_kept (zones_in zones.now)) }
 {
     match checked {
-        Checked::Unsigned => plan(alloc, zones, access, None, is_kept, message, out),
+        Checked::Unsigned => plan_for(alloc, zones, access, None, is_kept, message, out),
         Checked::Malformed => {
             refuse(out, header, Refusal::FormErr, false)?;
             Ok(PlannedUpdate::Refused)
@@ -173,14 +173,15 @@ fn plan_authentic(
         key.now message.now (zones_in zones.now) planned out.new.items) }
     ensures journaled { IfOk result (IsPlanJournaled is_kept (zones_in zones.now)) }
 {
-    let planned = plan(alloc, zones, access, Some(&key.name), is_kept, message, out)?;
-    sign(alloc, tsig, key, now, out)?;
+    let planned = plan_for(alloc, zones, access, Some(&key.name), is_kept, message, out)?;
+    sign_response(alloc, tsig, key, now, out)?;
     Ok(planned)
 }
 
-/// Signs the response to a request with this TSIG under a key, whole.
+/// Signs the response to a request with this TSIG under a key, whole (RFC 8945 section 5.3). Fails only for lack of memory; what `message` has is no
+/// response then.
 #[tactic(auto, using(crate::proofs::Fits::fits))]
-fn sign(
+pub fn sign_response(
     alloc: Global,
     request: &Tsig,
     key: &Key,

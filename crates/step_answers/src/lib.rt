@@ -9,4 +9,4 @@ pub mod laws;
 mod noting;
 
 pub use answers::step_messages;
-pub use noting::note_version;
+pub use noting::{note_step, note_version};

@@ -24,13 +24,14 @@ pub fn note_version(
     ensures same { OnErr result (kept.new ≡ kept.old) }
 {
     match step_between(alloc, origin, before, after) {
-        Ok(step) => put_step(kept, step),
+        Ok(step) => note_step(kept, step),
         Err(_) => Err(AllocError),
     }
 }
 
-/// Puts a step behind those that are kept if it is to a newer version; forgets all else.
-fn put_step(kept: &mut KeptSteps, step: Option<ZoneStep>) -> Result<(), AllocError>
+/// Puts a step behind those that are kept, which lead to the version that it is from. Where it isn't to a newer version by the serials of its two SOAs
+/// (RFC 1982), or there is none, all are forgotten: no step leads to that version. Fails only for lack of memory, and then the steps are as they were.
+pub fn note_step(kept: &mut KeptSteps, step: Option<ZoneStep>) -> Result<(), AllocError>
     ensures put { OnOk result (kept.new ≡ kept_behind step kept.old) }
     ensures same { OnErr result (kept.new ≡ kept.old) }
 {

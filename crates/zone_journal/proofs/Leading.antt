@@ -18,7 +18,7 @@ use Rattle.zone_journal.specs.Journals.{AreEntries}
 use Rattle.zone_journal.specs.JournalLaws.{CutJournalsLead, JournalsLead, LeadsTo, TornJournalsLead}
 use Rattle.zone_journal.specs.Replays.{if_entries, if_fits, replayed, steps_of}
 
-steps_back : (texts : List (List ℕ)) (ss : List Step) → AreEntries texts ss → steps_of texts ≡ Some (map shown_step ss)
+pub steps_back : (texts : List (List ℕ)) (ss : List Step) → AreEntries texts ss → steps_of texts ≡ Some (map shown_step ss)
 unfolding steps_of
 steps_back [] [] h = refl
 steps_back [] (s ∷ ss) h = absurd h

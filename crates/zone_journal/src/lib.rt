@@ -22,5 +22,5 @@ pub use entry_reader::read_entry;
 pub use entry_writer::write_entry;
 pub use fault::EntryFault;
 pub use pushing::push_step;
-pub use replaying::{ReplayFault, replayed};
+pub use replaying::{ReplayFault, replayed, steps_of};
 pub use shortening::journal_from;

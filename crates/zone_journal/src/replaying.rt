@@ -53,8 +53,9 @@ pub fn replayed(alloc: Global, zone: &RecordMap, journal: &[u8]) -> Result<Recor
     }
 }
 
-/// The steps of the entries in the whole frames of a journal; none where one of them has no entry.
-fn steps_of(alloc: Global, journal: &[u8]) -> Result<Option<Vec<ZoneStep>>, ProtoError>
+/// The steps of the entries in the whole frames of a journal, as answers show them; none where one of them has no entry. What stands behind the last
+/// whole frame counts for nothing. Refused by `Memory` alone.
+pub fn steps_of(alloc: Global, journal: &[u8]) -> Result<Option<Vec<ZoneStep>>, ProtoError>
     ensures { IfOk result (λ steps. option_map (λ v. map step_of v.items) steps
         ≡ steps_of (frames_in journal.now)) }
 {
