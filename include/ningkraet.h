@@ -393,6 +393,13 @@ uint32_t nk_steps_new(nk_steps *steps, uint32_t most);
  * NK_DONE; NK_NO_ZONE, and what was noted of this origin is forgotten; NK_BAD_NAME, NK_NO_MEMORY, NK_NO_STEPS or NK_CLOSED, and nothing changes. */
 uint32_t nk_steps_note(nk_steps *steps, nk_zones *zones, const uint8_t *origin, size_t origin_length);
 
+/* Keeps what the journal of a zone has of its changes, in place of what is kept of the zone, so that it goes out after a restart too. Call it once the zone
+ * is there to which the journal leads (nk_zones_replay), instead of nk_steps_note for that version. Of a journal that leads to a version of another
+ * serial, or of which a whole frame has no entry, no changes are kept: the version is noted as the first one. Frames behind the last whole one count
+ * for nothing; no octets are the journal of a zone without changes.
+ * NK_DONE; NK_NO_ZONE, and what was kept of this origin is forgotten; NK_BAD_NAME, NK_NO_MEMORY, NK_NO_STEPS or NK_CLOSED, and nothing changes. */
+uint32_t nk_steps_recall(nk_steps *steps, nk_zones *zones, const uint8_t *origin, size_t origin_length, const uint8_t *journal, size_t journal_length);
+
 /* Frees the nk_steps, if there is one. Afterwards there is none. */
 void nk_steps_free(nk_steps *steps);
 

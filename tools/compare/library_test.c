@@ -606,6 +606,34 @@ static int changes(void) {
     return 0;
 }
 
+static uint32_t recall(nk_steps *steps, nk_zones *zones, const char *origin, size_t length) { return nk_steps_recall(steps, zones, (const uint8_t *)origin, strlen(origin), journal, length); }
+
+/* What changed by a journal, as after a restart, and what each failed allocation leaves. */
+static int recalled(void) {
+    nk_zones zones = NK_ZONES_NONE;
+    nk_update one = NK_UPDATE_NONE;
+    nk_steps steps = NK_STEPS_NONE;
+    nk_transfer transfer = NK_TRANSFER_NONE;
+    size_t written, length;
+    uint32_t sent, code;
+    IS(recall(&steps, &zones, ORIGIN, 0) == NK_NO_STEPS && nk_steps_new(&steps, 100) == NK_DONE && recall(&steps, &zones, ORIGIN, 0) == NK_CLOSED && nk_zones_new(&zones) == NK_DONE);
+    IS(recall(&steps, &zones, ORIGIN, 0) == NK_NO_ZONE && recall(&steps, &zones, "a..b", 0) == NK_BAD_NAME && load(&zones, 0, ORIGIN, text, &written) == NK_DONE);
+    IS(read_rules(keys, &written) == NK_DONE && rule(ORIGIN, "key.example", NK_SUBDOMAIN, 255, 0) == NK_DONE && read_keys("", &written) == NK_DONE && allow(ORIGIN, "") == NK_DONE);
+    IS(begin_update(&one, &zones, 1000, sizeof room, sizeof frame, &written, &length) == NK_DONE && length && nk_update_commit(&one, &zones) == NK_DONE);
+    memcpy(journal, frame, length);
+    IS(recall(&steps, &zones, ORIGIN, 0) == NK_DONE && ask_changes(&transfer, &zones, &steps, 7, &sent) == NK_TRANSFER && sent == NK_NO_STEPS);
+    for (long nth = 1; (left = nth, code = recall(&steps, &zones, ORIGIN, length), left = -1, code) != NK_DONE; nth++)
+        IS(code == NK_NO_MEMORY && ask_changes(&transfer, &zones, &steps, 7, &sent) == NK_TRANSFER && sent == NK_NO_STEPS);
+    /* Between two SOA records the older one and an address, the newer one and two addresses. */
+    IS(ask_changes(&transfer, &zones, &steps, 7, &sent) == NK_TRANSFER && sent == NK_DONE && nk_transfer_next(&transfer, 1000, room, sizeof room, &written) == NK_DONE && room[7] == 7);
+    IS(recall(&steps, &zones, ORIGIN, length - 1) == NK_DONE && ask_changes(&transfer, &zones, &steps, 7, &sent) == NK_TRANSFER && sent == NK_NO_STEPS);   /* torn */
+    IS(recall(&steps, &zones, ORIGIN, length) == NK_DONE && load(&zones, 0, ORIGIN, next_text, &written) == NK_DONE && note(&steps, &zones, ORIGIN) == NK_DONE);   /* the same serial again */
+    IS(ask_changes(&transfer, &zones, &steps, 7, &sent) == NK_TRANSFER && sent == NK_NO_STEPS && load(&zones, 0, ORIGIN, text, &written) == NK_DONE);
+    IS(recall(&steps, &zones, ORIGIN, length) == NK_DONE && ask_changes(&transfer, &zones, &steps, 6, &sent) == NK_TRANSFER && sent == NK_NO_STEPS);   /* it leads to another version */
+    nk_transfer_free(&transfer), nk_update_free(&one), nk_updates_free(&rules), nk_access_free(&access), nk_steps_free(&steps), nk_zones_free(&zones);
+    return 0;
+}
+
 /* Those where each allocation fails in turn. */
 static int change_failures(void) {
     nk_zones zones = NK_ZONES_NONE;
@@ -632,7 +660,7 @@ static int change_failures(void) {
 int main(int argc, char **argv) {
     nk_zones zones = NK_ZONES_NONE;
     memset(before, 85, sizeof before);
-    int status = refusals() || expiry() || included() || notified() || plan_refusals() || transfers() || updates() || journals() || changes() || cookies() || failures(&zones) || datagrams(&zones, argc > 1 ? atol(argv[1]) : 0) || transfer_failures(&zones) || plan_failures(&zones) || change_failures();
+    int status = refusals() || expiry() || included() || notified() || plan_refusals() || transfers() || updates() || journals() || changes() || recalled() || cookies() || failures(&zones) || datagrams(&zones, argc > 1 ? atol(argv[1]) : 0) || transfer_failures(&zones) || plan_failures(&zones) || change_failures();
     nk_zones_free(&zones);
     return status;
 }

@@ -5,3 +5,4 @@ pub mod Lacked
 pub mod Leading
 pub mod Granted
 pub mod Shortened
+pub mod Recalls

@@ -4,3 +4,4 @@ pub mod Sending
 pub mod Shortening
 pub mod HistoryLaws
 pub mod GrantLaws
+pub mod Recalling

@@ -19,6 +19,7 @@ impl HeldSteps {
     ghost use Rattle.std.specs.Prelude.{◌≡◌, None, OnErr, OnOk, option_copied};
     ghost use Rattle.std.specs.Arc.{arc_value};
     ghost use Rattle.held_steps.specs.Histories.{history_of, most_in, HasNone, IsNotedIn, IsPut, IsSame};
+    ghost use Rattle.held_steps.specs.Recalling.{IsRecalledIn};
 
     /// No steps, and how many records those of one zone may have, signatures among them. Takes no memory.
     pub fn new(alloc: Global, most: u32) -> HeldSteps
@@ -65,6 +66,30 @@ impl HeldSteps {
             return Err(AllocError);
         };
         let history = ZoneHistory::new(alloc, version, self.most);
+        match self.histories.insert(origin, history) {
+            Ok(_) => Ok(()),
+            Err(_) => Err(AllocError),
+        }
+    }
+
+    /// Takes in the version of a zone to which its journal leads, with the steps of the journal, in place of what is kept of the zone: so what changed
+    /// before a server was started goes out still. Where the journal leads to a version of another serial, or one of its frames has no entry, there
+    /// are no steps. Call it once the zone is replayed, and `note` for each version after it. Fails only for lack of memory, and then all is as it was.
+    #[tactic(auto, using(crate::proofs::Recalls::recalled_in))]
+    pub fn recall(
+        &mut self,
+        alloc: Global,
+        version: Arc<Zone>,
+        journal: &[u8],
+    ) -> Result<(), AllocError>
+        ensures recalled { OnOk result
+            (IsRecalledIn (arc_value version) journal.now self.old self.new) }
+        ensures same { OnErr result (IsSame self.old self.new) }
+    {
+        let Ok(origin) = version.origin.clone() else {
+            return Err(AllocError);
+        };
+        let history = ZoneHistory::recalled(alloc, version, journal, self.most)?;
         match self.histories.insert(origin, history) {
             Ok(_) => Ok(()),
             Err(_) => Err(AllocError),

@@ -3,7 +3,7 @@
 //! `text_calls`. C passes no allocator; to C a slice is a pointer and a length, and a `&mut` a pointer.
 #![tactic(auto)]
 
-ghost use Rattle.std.specs.Prelude.{◌≡◌, ◌≤◌, [], None, length, take};
+ghost use Rattle.std.specs.Prelude.{◌≡◌, ◌≤◌, [], None, Some, length, take};
 ghost use Rattle.journal_frames.specs.Journals.{whole};
 ghost use Rattle.arrival_calls.specs.ArrivalCalls.{AnswersClient};
 ghost use Rattle.zone_database.specs.Calls.{transport_of, AnswersHeld, AsksHeld, ChangesHeld, IsAdded, IsCreated, IsDropped, IsLoaded, IsPrepared, IsSerial, IsReported};
@@ -304,10 +304,26 @@ pub extern "C" fn nk_steps_note(
     origin: &[u8],
 ) -> u32
     ensures noted { TransferCodes result (λ o.
-        NotesHeld origin.now zones.old.held steps.old.held o steps.new.held) }
+        NotesHeld None origin.now zones.old.held steps.old.held o steps.new.held) }
     ensures zones { zones.new.held ≡ zones.old.held }
 {
-    transfer_calls::note_zone(alloc, steps, zones, origin).code()
+    transfer_calls::note_zone(alloc, steps, zones, origin, None).code()
+}
+
+/// Keeps the version of the zone of an origin that is kept, with the steps of its journal, in place of what was noted of the zone before.
+#[unsafe(no_mangle)]
+pub extern "C" fn nk_steps_recall(
+    alloc: Global,
+    steps: &mut StepsHandle,
+    zones: &mut DatabaseHandle,
+    origin: &[u8],
+    journal: &[u8],
+) -> u32
+    ensures noted { TransferCodes result (λ o.
+        NotesHeld (Some journal.now) origin.now zones.old.held steps.old.held o steps.new.held) }
+    ensures zones { zones.new.held ≡ zones.old.held }
+{
+    transfer_calls::note_zone(alloc, steps, zones, origin, Some(journal)).code()
 }
 
 /// Gives the memory of the steps that are kept back. None are kept then.

@@ -1,8 +1,10 @@
 //! The steps of zones, as a program that isn't written in Rattle keeps them, and has them go out in place of a zone.
-ghost use Rattle.std.specs.Prelude.{◌≡◌, None};
+ghost use Rattle.std.specs.Prelude.{◌≡◌, None, OnErr, OnOk, option_map};
+ghost use Rattle.std.specs.Arc.{arc_value};
 ghost use Rattle.std.specs.List.{find};
 ghost use Rattle.zone_database.specs.Databases.{begins_at, zones_in};
-ghost use Rattle.transfer_calls.specs.Steps.{BeginsSteps, Notes, NotesFrom, NotesHeld, NotesZone, ShortensAnswer, ShortensBy, ShortensHeld};
+ghost use Rattle.held_steps.specs.Histories.{IsSame};
+ghost use Rattle.transfer_calls.specs.Steps.{BeginsSteps, IsTaken, Notes, NotesFrom, NotesHeld, NotesZone, ShortensAnswer, ShortensBy, ShortensHeld};
 
 use crate::grants::name_of;
 use crate::outcome::TransferOutcome;
@@ -10,9 +12,10 @@ use crate::steps_handle::StepsHandle;
 use crate::transfer_handle::TransferHandle;
 use call_handles::Handle;
 use held_steps::{HeldAnswer, HeldSteps};
-use std::alloc::Global;
+use std::alloc::{AllocError, Global};
 use std::mem;
-use zone_database::{DatabaseHandle, Outcome, ZoneDatabase};
+use std::sync::Arc;
+use zone_database::{DatabaseHandle, Outcome, Zone, ZoneDatabase};
 use zone_proto::LowerName;
 
 /// Has a handle hold the steps of no zone, in place of what it holds, and says how many records those of one zone may have, signatures among
@@ -30,21 +33,24 @@ pub fn new_steps(alloc: Global, steps: &mut StepsHandle, most: u32) -> Outcome
     }
 }
 
-/// Takes in the version of the zone of an origin that a handle of zones holds, as [`HeldSteps::note`] does. `NoZone` where it holds no zone of this
-/// origin: what was kept of one is forgotten then. `NoSteps`, `Closed`, `BadName` and `NoMemory` change nothing.
+/// Takes in the version of the zone of an origin that a handle of zones holds: as [`HeldSteps::recall`] does with the zone's journal, if there is one, and
+/// else as [`HeldSteps::note`] does. `NoZone` where it holds no zone of this origin: what was kept of one is forgotten then. `NoSteps`, `Closed`,
+/// `BadName` and `NoMemory` change nothing.
 #[tactic(auto, using(crate::proofs::StepFacts::noted_held))]
 pub fn note_zone(
     alloc: Global,
     steps: &mut StepsHandle,
     zones: &mut DatabaseHandle,
     origin: &[u8],
+    journal: Option<&[u8]>,
 ) -> TransferOutcome
-    ensures noted { NotesHeld origin.now zones.old.held steps.old.held result steps.new.held }
+    ensures noted { NotesHeld (option_map (λ x. x.now) journal.entry) origin.now zones.old.held
+        steps.old.held result steps.new.held }
     ensures zones { zones.new.held ≡ zones.old.held }
 {
     match steps.take(alloc) {
         Some(mut held) => {
-            let outcome = note_from(alloc, &mut held, zones, origin);
+            let outcome = note_from(alloc, &mut held, zones, origin, journal);
             steps.put(held);
             outcome
         }
@@ -59,13 +65,15 @@ fn note_from(
     steps: &mut HeldSteps,
     zones: &mut DatabaseHandle,
     origin: &[u8],
+    journal: Option<&[u8]>,
 ) -> TransferOutcome
-    ensures noted { NotesFrom origin.now zones.old.held steps.old result steps.new }
+    ensures noted { NotesFrom (option_map (λ x. x.now) journal.entry) origin.now zones.old.held
+        steps.old result steps.new }
     ensures zones { zones.new.held ≡ zones.old.held }
 {
     match zones.take(alloc) {
         Some(database) => {
-            let outcome = note_in(alloc, steps, &database, origin);
+            let outcome = note_in(alloc, steps, &database, origin, journal);
             zones.put(database);
             outcome
         }
@@ -80,11 +88,13 @@ fn note_in(
     steps: &mut HeldSteps,
     database: &ZoneDatabase,
     origin: &[u8],
+    journal: Option<&[u8]>,
 ) -> TransferOutcome
-    ensures { Notes origin.now (zones_in database.now) steps.old result steps.new }
+    ensures { Notes (option_map (λ x. x.now) journal.entry) origin.now (zones_in database.now)
+        steps.old result steps.new }
 {
     match name_of(alloc, origin) {
-        Ok(origin) => note_at(alloc, steps, database, &origin),
+        Ok(origin) => note_at(alloc, steps, database, &origin, journal),
         Err(outcome) => outcome,
     }
 }
@@ -96,12 +106,13 @@ fn note_at(
     steps: &mut HeldSteps,
     database: &ZoneDatabase,
     origin: &LowerName,
+    journal: Option<&[u8]>,
 ) -> TransferOutcome
-    ensures { NotesZone origin.now (find (begins_at origin.now) (zones_in database.now)) steps.old
-        result steps.new }
+    ensures { NotesZone (option_map (λ x. x.now) journal.entry) origin.now
+        (find (begins_at origin.now) (zones_in database.now)) steps.old result steps.new }
 {
     match database.share(origin) {
-        Ok(Some(zone)) => match steps.note(alloc, zone) {
+        Ok(Some(zone)) => match take_in(alloc, steps, zone, journal) {
             Ok(()) => TransferOutcome::Usual(Outcome::Done),
             Err(_) => TransferOutcome::Usual(Outcome::NoMemory),
         },
@@ -110,6 +121,24 @@ fn note_at(
             TransferOutcome::Usual(Outcome::NoZone)
         }
         Err(_) => TransferOutcome::Usual(Outcome::NoMemory),
+    }
+}
+
+/// Takes in a version of a zone.
+#[tactic(auto, using(crate::proofs::StepFacts::taken_next, crate::proofs::StepFacts::taken_again))]
+fn take_in(
+    alloc: Global,
+    steps: &mut HeldSteps,
+    version: Arc<Zone>,
+    journal: Option<&[u8]>,
+) -> Result<(), AllocError>
+    ensures taken { OnOk result (IsTaken (option_map (λ x. x.now) journal.entry)
+        (arc_value version) steps.old steps.new) }
+    ensures same { OnErr result (IsSame steps.old steps.new) }
+{
+    match journal {
+        Some(journal) => steps.recall(alloc, version, journal),
+        None => steps.note(alloc, version),
     }
 }
 

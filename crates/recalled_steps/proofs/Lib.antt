@@ -1,0 +1,4 @@
+pub mod ShownSteps
+pub mod ShownVersions
+pub mod Recalls
+pub mod Leading
