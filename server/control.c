@@ -34,7 +34,7 @@ static size_t reply_to(char *line, char *reply, struct worker *workers, size_t w
     char *rest = line, *name = strsep(&rest, " "), *first = rest ? strsep(&rest, " ") : NULL, *second = rest;
     struct counters *counters[worker_count];
     for (size_t i = 0; i < worker_count; i++) counters[i] = &workers[i].counters;
-    const char *why = "the commands are: status, metrics, zones, reload, add ORIGIN FILE, drop ORIGIN, stop";
+    const char *why = "the commands are: status, metrics, zones, reload, add ORIGIN FILE, drop ORIGIN, write ORIGIN, stop";
     size_t length = sprintf(reply, "ok\n");
     if (!strcmp(name, "status") && !first) {
         length += sprintf(reply + length, "%12zu zones\n%12zu workers\n", zones_count(), worker_count);
@@ -52,6 +52,7 @@ static size_t reply_to(char *line, char *reply, struct worker *workers, size_t w
         if (!why && zones_renew(0)) why = "its file is bad, or another's: ningkraetctl zones has the faults";
     }
     if (!strcmp(name, "drop") && first && !second) why = zones_drop(first);
+    if (!strcmp(name, "write") && first && !second) why = zones_write(first);
     return why ? (size_t)sprintf(reply, "error\n%s\n", why) : length;
 }
 

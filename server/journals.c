@@ -52,31 +52,38 @@ static void cut(struct journal *journal, int fd, off_t length) {
         log_line("%s: its journal can't be cut to %lld octets: %s; no update is taken until the next start", journal->origin, (long long)length, strerror(errno));
 }
 
+int write_file(const char *path, const uint8_t *octets, size_t length, mode_t mode) {
+    int fd = open(path, O_WRONLY | O_CREAT | O_TRUNC | O_CLOEXEC, mode), is_bad = fd < 0 || write_all(fd, octets, length) || fsync(fd);
+    if (is_bad) log_line("%s: %s", path, strerror(errno));
+    if (fd >= 0) close(fd);
+    return is_bad ? -1 : 0;
+}
+
 /* The same at the start, once all of it is put aside. */
 static void cut_torn(struct journal *journal, const uint8_t *octets, size_t length, size_t intact) {
+    int fd = open(path_of(journal, 0), O_WRONLY | O_CLOEXEC);
     log_line("%s: the last %zu octets of its journal are no whole update, and are cut off; %s has all", journal->origin, length - intact, path_of(journal, 1));
-    int aside = open(path_of(journal, 1), O_WRONLY | O_CREAT | O_TRUNC | O_CLOEXEC, 0600), fd = open(path_of(journal, 0), O_WRONLY | O_CLOEXEC);
-    if (aside < 0 || write_all(aside, octets, length) || fsync(aside)) log_line("%s: %s", path_of(journal, 1), strerror(errno));
+    write_file(path_of(journal, 1), octets, length, 0600);
     cut(journal, fd, intact);
-    if (aside >= 0) close(aside);
     if (fd >= 0) close(fd);
 }
 
-uint32_t journal_replay(struct journal *journal, nk_zones *zones) {
+uint32_t journal_replay(struct journal *journal, nk_zones *zones, nk_steps *steps) {
     const char *path = path_of(journal, 0), *aside = path_of(journal, 1);
     struct stat found;
     size_t intact = 0;
     uint32_t before = 0, after = 0;
-    uint8_t *octets = octets_of(path, &found);
-    if (!octets) return errno == ENOENT ? NK_DONE : (log_line("%s: %s", path, strerror(errno)), NK_NO_MEMORY);
+    uint8_t *octets = octets_of(path, &found), none[1] = {0};
+    if (!octets && errno != ENOENT) return log_line("%s: %s", path, strerror(errno)), NK_NO_MEMORY;
     nk_zones_serial(zones, OCTETS(journal->origin), &before);
-    uint32_t code = nk_zones_replay(zones, OCTETS(journal->origin), octets, found.st_size, &intact);
+    uint32_t code = nk_zones_replay(zones, OCTETS(journal->origin), octets ? octets : none, found.st_size, &intact);
     nk_zones_serial(zones, OCTETS(journal->origin), &after);
     const char *why = code == NK_NO_ENTRY ? "isn't a journal" : code == NK_MISFIT ? "doesn't fit its zone file" : code == NK_DONE && intact && before == after ? "has nothing that its zone file lacks" : NULL;
     if (why) sync();   /* the zone file may be new, and outlasts the journal then */
     if (why && !rename(path, aside)) log_line("%s: its journal %s, and is put aside as %s", journal->origin, why, aside), code = NK_DONE;
     else if (code == NK_MISFIT || code == NK_NO_ENTRY) log_line("%s: %s, and can't be put aside: %s", path, why, strerror(errno)), code = NK_NO_MEMORY;
     else if (code == NK_DONE && intact < (size_t)found.st_size) cut_torn(journal, octets, found.st_size, intact);
+    if (!journal->is_recalled && code == NK_DONE && nk_steps_recall(steps, zones, OCTETS(journal->origin), octets ? octets : none, intact) == NK_DONE) journal->is_recalled = 1;
     free(octets);
     return code;
 }

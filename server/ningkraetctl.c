@@ -9,7 +9,7 @@
 int main(int argc, char **argv) {
     int first = argc > 2 && !strcmp(argv[1], "-s") ? 3 : 1;
     const char *path = first == 3 ? argv[2] : "/run/ningkraetd/control";
-    if (argc <= first) errx(2, "usage: ningkraetctl [-s SOCKET] status | metrics | zones | reload | add ORIGIN FILE | drop ORIGIN | stop");
+    if (argc <= first) errx(2, "usage: ningkraetctl [-s SOCKET] status | metrics | zones | reload | add ORIGIN FILE | drop ORIGIN | write ORIGIN | stop");
     struct sockaddr_un address = {.sun_family = AF_UNIX};
     strncpy(address.sun_path, path, sizeof address.sun_path - 1);
     int fd = socket(AF_UNIX, SOCK_STREAM, 0);

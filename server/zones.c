@@ -149,8 +149,11 @@ void zones_shorten(nk_transfer *transfer, const uint8_t *query, size_t length) {
 
 /* Ends the loading of a zone: by what its journal has, if it takes updates, or else by its answers that are kept. */
 static uint32_t settle(nk_zones *into, struct zone *zone) {
-    uint32_t code = zone->journal ? journal_replay(zone->journal, into) : NK_DONE;
-    if (code == NK_DONE) note(into, zone->origin);
+    int is_first = zone->journal && !zone->journal->is_recalled;
+    if (is_first) pthread_mutex_lock(&noting);
+    uint32_t code = zone->journal ? journal_replay(zone->journal, into, &steps) : NK_DONE;
+    if (is_first) pthread_mutex_unlock(&noting);
+    else if (code == NK_DONE) note(into, zone->origin);
     if (!zone->journal && config->ready_answers && nk_zones_prepare(into, OCTETS(zone->origin)) == NK_NO_MEMORY)
         log_line("%s: no memory to keep its answers", zone->origin);
     return code;
@@ -252,12 +255,19 @@ static uint32_t publish_updated(nk_zones *fresh, unsigned long number) {
     return code;
 }
 
+/* A copy of the zones that are served, and their number. */
+static uint32_t copy_loaded(nk_zones *copy, unsigned long *number) {
+    pthread_mutex_lock(&lock);
+    *number = atomic_load(&renewed);
+    uint32_t code = nk_zones_copy(&loaded, copy);
+    pthread_mutex_unlock(&lock);
+    return code;
+}
+
 size_t zones_renew(int all) {
     nk_zones fresh = NK_ZONES_NONE;
-    pthread_mutex_lock(&lock);
-    unsigned long number = atomic_load(&renewed);
-    uint32_t code = nk_zones_copy(&loaded, &fresh);
-    pthread_mutex_unlock(&lock);
+    unsigned long number;
+    uint32_t code = copy_loaded(&fresh, &number);
     size_t changes = 0, faults = 0, kept = 0;
     int can_see = 1;
     for (size_t i = 0; i < zone_count; i++) zones[i]->is_there = !zones[i]->is_of_folder, zones[i]->is_loaded = 0;
@@ -367,6 +377,30 @@ const char *zones_drop(char *origin) {
     zone->is_of_folder = 1;   /* as one that has left its folder */
     zones_renew(0);
     return NULL;
+}
+
+const char *zones_write(char *origin) {
+    static uint8_t none[1];
+    lower(origin);
+    struct zone *zone = find(origin);
+    if (!zone || !zone->journal || zone->is_expired) return !zone ? "there is no zone of this origin" : !zone->journal ? "it takes no updates: its file has all of it" : "it has expired";
+    nk_zones served = NK_ZONES_NONE;
+    uint8_t *text = none;
+    unsigned long number;
+    size_t length = 0;
+    char path[4096];
+    uint32_t code = copy_loaded(&served, &number);
+    if (code == NK_DONE) code = nk_zones_write(&served, OCTETS(origin), none, 0, &length);
+    if (code == NK_NO_ROOM && (text = malloc(length))) code = nk_zones_write(&served, OCTETS(origin), text, length, &length);
+    struct stat found = {0};
+    stat(zone->file.path, &found);
+    snprintf(path, sizeof path, "%s.new", zone->file.path);
+    const char *why = code == NK_NO_ZONE ? "it isn't served" : code != NK_DONE ? "out of memory" : NULL;
+    if (!why && (write_file(path, text, length, (found.st_mode & 0777) | 0600) || rename(path, zone->file.path))) why = strerror(errno), unlink(path);
+    if (text != none) free(text);
+    nk_zones_free(&served);
+    if (!why) zones_renew(0);   /* so that its journal begins anew */
+    return why;
 }
 
 size_t zones_print(char *text, size_t size) {

@@ -12,6 +12,8 @@ size_t zones_renew(int all);
 /* Adds a zone, or drops one, until the next start. Returns NULL, or what was wrong. */
 const char *zones_add(char *origin, const char *path);
 const char *zones_drop(char *origin);
+/* Writes the file of a zone that takes updates from what is served, in one step, and has its journal begin anew. Returns NULL, or what was wrong. */
+const char *zones_write(char *origin);
 /* Writes a line for each zone, as many as there is room for: its origin, serial and file, whether it has expired, and what is wrong with the file. */
 size_t zones_print(char *text, size_t size);
 size_t zones_count(void);
@@ -29,6 +31,7 @@ void zones_free(void);
 struct journal {
     const char *origin;
     int is_closed;             /* whether no update may be taken, since what stands behind the last one couldn't be cut off */
+    int is_recalled;           /* whether what changed before this start is kept */
     unsigned long changed;     /* the number of the zones that were served first with its last update */
 };
 
@@ -38,8 +41,11 @@ void journals_free(void);
 /* The journal of a zone, or NULL where it takes no updates; and whether it can be read, or hasn't begun. */
 struct journal *journal_of(const char *origin);
 int journal_is_readable(const struct journal *journal);
-/* Puts the zone that the journal leads to in place of the one that was loaded from its file, which may have been written anew. A last frame that isn't
- * whole is cut off; a journal that doesn't fit the file, or of which the file has all, is put aside as ORIGIN.journal.old. Returns NK_DONE or NK_NO_MEMORY. */
-uint32_t journal_replay(struct journal *journal, nk_zones *zones);
+/* Puts the zone that the journal leads to in place of the one that was loaded from its file, which may have been written anew; the first time it keeps what
+ * changed before. A last frame that isn't whole is cut off; a journal that doesn't fit the file, or of which the file has all, is put aside as
+ * ORIGIN.journal.old. Returns NK_DONE or NK_NO_MEMORY. */
+uint32_t journal_replay(struct journal *journal, nk_zones *zones, nk_steps *steps);
+/* Writes a file that outlasts whatever happens. Returns 0, or -1 once it is logged why not. */
+int write_file(const char *path, const uint8_t *octets, size_t length, mode_t mode);
 /* Has a frame outlast whatever happens. Returns 0, or -1 once it is logged why not: then the journal is what it was, or closed. */
 int journal_append(struct journal *journal, const uint8_t *frame, size_t length);

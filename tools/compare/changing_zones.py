@@ -4,7 +4,8 @@ second by dynamic updates (RFC 2136). secondaryd behind examples/serving/seconda
 that copy; and NSD, Knot DNS and BIND, told by examples/serving/notify.py, follow ningkraetd under the key. There are six rounds of ten seconds
 unless another number is given; after each one every server's zone of the last serial is compared with the primary's, record by record, and
 ningkraetd is asked what changed since the round before (IXFR): the zone that this makes of its older version is compared too.
-If a server is missing, it is left out, and a line says so. Not part of the gate: it needs cc, dig and nsupdate, and opens sockets on loopback. It
+Then ningkraetd takes the updates itself, of the same zone unsigned, and is killed (SIGKILL) and started again in each round; what changed before
+goes out all the same, and the three follow it. If a server is missing, it is left out, and a line says so. Not part of the gate: it needs cc, dig and nsupdate, and opens sockets on loopback. It
 ends what it starts.
 
 The servers are Debian's packages nsd, knot and bind9. FOLDER is what `./build ningkraet` made; where none is named it is what `tools/build/program
@@ -135,6 +136,37 @@ def wrong_of(primary, program, library, daemon, room, rounds):
     return wrong
 
 
+def wrong_of_updated(library, daemon, room, rounds):
+    """Which copies are wrong where ningkraetd takes the updates and is killed in each round, each with its round."""
+    os.mkdir(room)
+    os.mkdir(f"{room}/journals")
+    served, keys, path, wrong = free_port(), key_file(f"{room}/keys"), zone_file(f"{room}/zone"), []
+    lines = [f"transfer {ORIGIN} {KEY}", f"update {ORIGIN} grant {KEY} subdomain {ORIGIN} ANY", f"journals {room}/journals", f"control {room}/control"]
+    words = peers.daemon(daemon, served, {ORIGIN: path}, f"keys {keys}", *lines)
+    with contextlib.ExitStack() as begun:
+        server = peers.begun(words)
+        begun.callback(lambda: peers.end(server))
+        peers.connected(served).close()
+        ports = followers(begun, room, served, library)
+        before, older = serial_of(served), dug(served, ORIGIN, "AXFR")
+        for first in range(0, CHANGES * rounds, CHANGES):
+            with subprocess.Popen(["nsupdate", "-k", keys], stdin=subprocess.PIPE, text=True) as updates:
+                updates.stdin.write(f"server 127.0.0.1 {served}\nzone {ORIGIN}\n")
+                for number in range(first, first + CHANGES):
+                    change(updates, number)
+                    time.sleep(0.5)
+            server.kill()
+            server.wait()
+            server = peers.begun(words)
+            peers.connected(served).close()
+            wrong += [f"{it}, after {first + CHANGES} updates" for it in differing(served, first + CHANGES - 1, ports)]
+            newer = dug(served, ORIGIN, "AXFR")
+            if since(served, before, older) != newer or serial_of(served) != before + CHANGES:
+                wrong.append(f"what ningkraetd says has changed, after {first + CHANGES} updates")
+            before, older = serial_of(served), newer
+    return wrong
+
+
 def differing(port, number, ports):
     """The servers of which the copy isn't the primary's zone, once that has this change and stands still."""
     come(lambda: f'"change {number}"' in " ".join(dug(port, f"changes.{ORIGIN}", "TXT", keyed=False)))
@@ -157,7 +189,9 @@ def main(rounds="6", folder=None):
             wrong = wrong_of(primary, program, library, daemon, f"{room}/{primary}", int(rounds))
             print(f"{primary} as primary: {CHANGES * int(rounds)} changes, {len(wrong)} copies wrong", *wrong, sep="\n    ", flush=True)
             differs = differs or bool(wrong)
-    return 1 if differs else 0
+        wrong = wrong_of_updated(library, daemon, f"{room}/updated", int(rounds))
+        print(f"ningkraetd as primary: {CHANGES * int(rounds)} updates, {rounds} kills, {len(wrong)} copies wrong", *wrong, sep="\n    ", flush=True)
+    return 1 if differs or wrong else 0
 
 
 if __name__ == "__main__":

@@ -109,6 +109,9 @@ def updates_are_taken(room):
         need(code_of(server, update(many), by_tcp=True) == NOERROR and stands(server, "m1499", 250), "an update of many names")
         killed(server)
         need(all(stands(server, *it) for it in (("one.d", 1), ("two", 2), ("m1499", 250))) and serial_of(server) == 4, "updates are there after the next start")
+        need(since(server, 2)[:4] == ["SOA 4", "SOA 2", "SOA 3", "192.0.2.2"] and since(server, 1)[1] == "SOA 1", f"and so is what changed: {since(server, 2)[:9]}")
+        takes(server, "three", 3)
+        need(since(server, 3)[:2] == ["SOA 5", "SOA 3"] and since(server, 4) == ["SOA 5", "SOA 4", "SOA 5", "192.0.2.3", "SOA 5"], f"what changed since: {since(server, 4)}")
     with Server(room) as server:
         need(code_of(server, update([added("one.d", 1)]), key=None) in (4, REFUSED), "a server without lines `update`")
 
@@ -150,6 +153,32 @@ def journals_are_replayed(room):
             it.write(b"no journal at all")
         killed(server)
         need(serial_of(server) == 9 and os.stat(journal(server)).st_size == 0 and os.stat(journal(server, ".old")).st_size == 17, "what is no journal")
+
+
+def files_are_written(room):
+    with server_in(room, zones=("example.com", "example.org")) as server:
+        path = f"{server.folder}/zones/example.com.zone"
+        os.chmod(path, 0o640)
+        takes(server, "one", 1)
+        takes(server, "two", 2)
+        need(server.control("write", "Example.COM.") == (0, "") and not os.path.exists(journal(server)), f"a zone is written: {server.text()}")
+        with open(path, encoding="ascii") as it:
+            text = it.read()
+        need(text.startswith(f"{ORIGIN}") and f"one.{ORIGIN}" in text and os.stat(path).st_mode & 0o777 == 0o640, f"its file: {text}")
+        need(stands(server, "one", 1) and serial_of(server) == 3 and since(server, 1)[0] == "SOA 3" and len(since(server, 1)) > 2, "what is served stays, with what changed")
+        takes(server, "three", 3)
+        killed(server)
+        need(all(stands(server, *it) for it in (("one", 1), ("two", 2), ("three", 3))) and serial_of(server) == 4, "the file, and a journal that was begun anew")
+        for origin, why in {"example.org": "it takes no updates: its file has all of it", "example.net": "there is no zone of this origin"}.items():
+            need(server.control("write", origin) == (1, f"{why}\n"), f"{origin}: {server.control('write', origin)}")
+        os.mkdir(f"{path}.new")
+        need(server.control("write", "example.com") == (1, "Is a directory\n") and stands(server, "three", 3), "a file that can't be written")
+        os.rmdir(f"{path}.new")
+        with open(f"{path}.expired", "wb"):
+            pass
+        need(server.control("reload")[0] == 0 and server.control("write", "example.com") == (1, "it has expired\n"), server.control("zones")[1])
+        with open(path, encoding="ascii") as it:
+            need(it.read() == text, "the file of a zone that has expired stays")
 
 
 def what_cannot_be_written_is_refused(room):
@@ -259,7 +288,7 @@ def kills_lose_nothing(room, updates):
     print(f"  {sent} updates; {kills} kills, after which {found} updates were there without an answer")
 
 
-TESTS = [updates_are_taken, tools_update, journals_are_replayed, what_cannot_be_written_is_refused, updates_go_on_beside_reloads, kills_lose_nothing]
+TESTS = [updates_are_taken, tools_update, journals_are_replayed, files_are_written, what_cannot_be_written_is_refused, updates_go_on_beside_reloads, kills_lose_nothing]
 
 
 def main(folder=None, updates="200"):
