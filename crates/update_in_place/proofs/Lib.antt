@@ -1,0 +1,9 @@
+pub mod Kept
+pub mod Named
+pub mod Local
+pub mod About
+pub mod Copied
+pub mod Exchanged
+pub mod Alone
+pub mod Made
+pub mod Steps
