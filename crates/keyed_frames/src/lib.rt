@@ -7,4 +7,5 @@ mod sending;
 mod serving;
 
 pub use clock::Clock;
-pub use serving::serve_keyed_frames;
+pub use sending::write_framed;
+pub use serving::{answer_keyed_frame, serve_keyed_frames};

@@ -17,7 +17,7 @@ use zone_server::Stop;
 /// Writes a message behind its length, to where it is read; nothing where it has no octets. A message has at most 65,535. Where a write fails, a
 /// front of them was written.
 #[tactic(auto, using(crate::proofs::Written::framed_whole, crate::proofs::Written::framed_nothing, crate::proofs::Written::framed_front))]
-pub(crate) fn write_framed<W: Write>(octets: &[u8], output: &mut W) -> Result<(), Stop>
+pub fn write_framed<W: Write>(octets: &[u8], output: &mut W) -> Result<(), Stop>
     ensures written { OnOk result (Appends (W.contents output.old) (W.contents output.new)
         (framed octets.now)) }
     ensures front { OnErr result (MovesFront (framed octets.now)

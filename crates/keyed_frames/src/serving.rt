@@ -142,15 +142,19 @@ fn answer_frames<'o, C: Clock, W: Write>(
     let mut out = Vec::new(alloc);
     let mut rest = octets;
     while let Some((frame, behind)) = frame_of(mode, rest) {
-        answer_frame(alloc, database, access, clock, frame, &mut out, output)?;
+        answer_keyed_frame(alloc, database, access, clock, frame, &mut out, output)?;
         rest = behind;
     }
     Ok(rest)
 }
 
-/// Writes what answers a message. `out` is for an answer.
+/// Writes what answers a message from the zones of a database, by keys, at the moment that the clock tells, as [`serve_keyed_frames`] does. `out` is for
+/// an answer.
+///
+/// # Errors
+/// Where it stops, a front of the answer was written.
 #[tactic(auto, using(crate::proofs::Written::by_keys, crate::proofs::StoppedFrames::keys_stop, crate::proofs::StoppedFrames::none_stops))]
-fn answer_frame<C: Clock, W: Write>(
+pub fn answer_keyed_frame<C: Clock, W: Write>(
     alloc: Global,
     database: &ZoneDatabase,
     access: &TransferAccess,
