@@ -7,6 +7,7 @@ use key_files::KeyFileError;
 use line_text::{HexText, TextError, Words, read_hex, read_name};
 use std::alloc::Global;
 use std::collections::BTreeMap;
+use update_denials::Prepared;
 use zone_database::{TextFault, ZoneDatabase, read_zone};
 use zone_proto::LowerName;
 use zone_server::Transport;
@@ -22,6 +23,8 @@ pub struct KeyedServer {
     pub zones: ZoneDatabase,
     /// The update that was planned last, unless it was committed.
     pub planned: Option<UpdatedZone>,
+    /// The update of the signed zone of an origin that was prepared last, unless it was finished.
+    pub prepared: Option<(LowerName, Prepared)>,
 }
 
 impl KeyedServer {
@@ -38,6 +41,7 @@ impl KeyedServer {
             },
             zones: ZoneDatabase::new(alloc),
             planned: None,
+            prepared: None,
         }
     }
 }

@@ -2,6 +2,7 @@
 
 use crate::access::{KeyedServer, allow_told, keys_told, request_told, zone_told};
 use crate::answers::{answer_told, query_told};
+use crate::signed::{finish_told, prepare_told};
 use crate::updates::{commit_told, expire_told, plan_told, records_told, rule_told, update_told};
 use compared_rows::Caller;
 use line_text::{TextError, Words, read_record};
@@ -37,6 +38,8 @@ impl Caller for TransferCaller {
             "rule" => rule_told(alloc, &mut self.server, words),
             "update" => update_told(alloc, &mut self.server, words),
             "plan" => plan_told(alloc, &mut self.server, words),
+            "prepare" => prepare_told(alloc, &mut self.server, words),
+            "finish" => finish_told(alloc, &mut self.server),
             "commit" => commit_told(alloc, &mut self.server),
             "expire" => expire_told(alloc, &mut self.server, words),
             "records" => records_told(alloc, &self.server, words),

@@ -19,6 +19,9 @@
 //!   that was updated, or behind `refused`, `unchanged` or `too long`; or `no update`;
 //! - `plan MOMENT MESSAGE` has it plan one, and tells the same; `commit` puts the zone that was planned last in its place: `done`, `overtaken`, or
 //!   `nothing is planned`;
+//! - `prepare MOMENT NAME MESSAGE` has it prepare one where the zone of a name is signed by one key: what `plan` tells, or how many signatures are to
+//!   be made, or `unsigned` where none can be, before the octets of the response; `finish` puts signatures in, so that what was prepared last is what
+//!   was planned last: `signed`, or why it isn't, or `nothing is prepared`;
 //! - `expire NAME` has a zone expire;
 //! - `records NAME` tells the records of a zone.
 #![tactic(auto)]
@@ -26,6 +29,7 @@
 mod access;
 mod answers;
 mod calls;
+mod signed;
 mod updates;
 
 use calls::TransferCaller;

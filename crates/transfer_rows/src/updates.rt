@@ -108,7 +108,17 @@ pub fn plan_told(
     let octets = message.as_slice();
     let (zones, access) = (&server.zones, &server.updates);
     let planned = plan_update(alloc, zones, access, now, true, octets, &mut out)?;
-    let octets = HexText(out.as_slice());
+    planned_text(alloc, server, planned, out.as_slice())
+}
+
+/// What is told of what is planned, whose response has these octets.
+pub fn planned_text(
+    alloc: Global,
+    server: &mut KeyedServer,
+    planned: PlannedUpdate,
+    octets: &[u8],
+) -> Result<String, TextError> {
+    let octets = HexText(octets);
     Ok(match planned {
         PlannedUpdate::Other => format!(in alloc; "no update")?,
         PlannedUpdate::Refused => format!(in alloc; "refused {octets}")?,

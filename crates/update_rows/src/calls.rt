@@ -3,7 +3,10 @@
 use crate::messages::{message_answer, response_answer};
 use crate::policy::{permit_answer, read_rule, unsigned_answer};
 use crate::replies::{reply_answer, scarce_reply_answer, unsigned_reply_answer};
-use crate::signing::{denials_answer, overtaken_answer, sign_answer, signed_update_answer};
+use crate::signing::{
+    denials_answer, overtaken_answer, sign_answer, signed_ask_answer, signed_reply_answer,
+    signed_update_answer,
+};
 use crate::updating::{
     ask_answer, back_answer, scarce_update_answer, unsigned_ask_answer, update_answer,
 };
@@ -62,6 +65,8 @@ impl Caller for Case {
             "denials" => denials_answer(alloc, self, words),
             "sign" => sign_answer(alloc, self),
             "signed-update" => signed_update_answer(alloc, self, words),
+            "signed-ask" => signed_ask_answer(alloc, self, words),
+            "signed-reply" => signed_reply_answer(alloc, self, words),
             "overtaken" => overtaken_answer(alloc, self, words),
             "since" => since_answer(alloc, self, words),
             "scarce" => scarce_update_answer(alloc, self, words),

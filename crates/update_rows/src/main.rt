@@ -13,7 +13,8 @@
 //! - `since SERIAL` tells how many versions of the zone who has the one of a serial lacks, and what they changed together, or `none`;
 //! - `denials nsec|nsec3|opt-out` chooses how the zone denies, `sign` signs it by one key; `signed-update ENTRY; ..` updates it so signed, and
 //!   `overtaken ENTRY; ..` prepares such an update twice before both are committed. The owners and types of the sets for which signatures are
-//!   made are told, each before a semicolon, and then `made`;
+//!   made are told, each before a semicolon, and then `made`; `signed-ask KEY ENTRY; ..` does so where the table of rules permits it to who has
+//!   a key, and `signed-reply KEY HEX` of octets, with those of the response before;
 //! - `scarce ENTRY; ..` makes the same update of the zone with no memory left, and then with a little more each time: whether memory was
 //!   refused, and the code in the end; the zone stays as it is;
 //! - `rule grant|deny KEY SCOPE NAME TYPE ..` adds a rule to a table; the scopes are `name`, `subdomain`, `own-name` and `own-subdomain`;

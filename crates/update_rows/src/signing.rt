@@ -3,9 +3,12 @@
 use crate::calls::Case;
 use crate::entries::read_update;
 use crate::updating::code_word;
-use line_text::{TextError, Words};
+use compared_rows::octets_of;
+use line_text::{HexText, TextError, Words, read_name};
 use std::alloc::Global;
 use update_denials::{CommitFault, PrepareFault, Prepared, Signing, commit, prepare};
+use update_message::{UpdateError, UpdateMessage};
+use update_signing::{SignedReply, answer_signed_update, prepare_if_permitted};
 use zone_difference::copied;
 use zone_keeping::Span;
 use zone_planner::{Request, make_plan, planned_by_flags};
@@ -74,13 +77,90 @@ pub fn signed_update_answer(
 ) -> Result<String, TextError> {
     match prepared(alloc, case, text)? {
         Err(told) => Ok(told),
-        Ok(prepared) => {
-            let told = blanks_text(alloc, &prepared.plan)?;
-            match put_in(alloc, case, prepared)? {
-                None => Ok(told),
-                Some(fault) => Ok(format!(in alloc; "{fault:?}")?),
-            }
+        Ok(prepared) => committed_text(alloc, case, prepared),
+    }
+}
+
+/// The same where the table of rules permits it to who has the key that is named first.
+pub fn signed_ask_answer(alloc: Global, case: &mut Case, words: &str) -> Result<String, TextError> {
+    let (key, text) = words.split_once(" ").ok_or(TextError::BadText)?;
+    let key = key_of(alloc, key)?;
+    let update = read_update(alloc, text)?;
+    let origin = LowerName::new(&case.origin)?;
+    let signing = signing_of(alloc, case)?;
+    let rules = case.rules.as_slice();
+    let outcome = prepare_if_permitted(
+        alloc,
+        rules,
+        Some(&key),
+        origin,
+        &case.zone,
+        update,
+        signing,
+    );
+    match told(alloc, outcome)? {
+        Err(told) => Ok(told),
+        Ok(prepared) => committed_text(alloc, case, prepared),
+    }
+}
+
+/// The response to octets in hex of who has the key that is named first, and which signatures are made; or why none are.
+pub fn signed_reply_answer(
+    alloc: Global,
+    case: &mut Case,
+    words: &str,
+) -> Result<String, TextError> {
+    let (key, octets) = words.split_once(" ").ok_or(TextError::BadText)?;
+    let key = key_of(alloc, key)?;
+    let octets = octets_of(alloc, octets)?;
+    let asked = asked_of(alloc, octets.as_slice())?;
+    let origin = LowerName::new(&case.origin)?;
+    let signing = signing_of(alloc, case)?;
+    let rules = case.rules.as_slice();
+    let mut out = Vec::new(alloc);
+    let reply = answer_signed_update(
+        alloc,
+        rules,
+        Some(&key),
+        origin,
+        &case.zone,
+        asked,
+        signing,
+        &mut out,
+    )?;
+    let hex = HexText(out.as_slice());
+    match reply {
+        SignedReply::Refused(_) => Ok(format!(in alloc; "{hex}")?),
+        SignedReply::Unsigned(fault) => Ok(format!(in alloc; "{hex} {fault}")?),
+        SignedReply::Unchanged => Ok(format!(in alloc; "{hex} unchanged")?),
+        SignedReply::Prepared(prepared) => {
+            let told = committed_text(alloc, case, prepared)?;
+            Ok(format!(in alloc; "{hex} {told}")?)
         }
+    }
+}
+
+/// The name of a key, in lower case.
+fn key_of(alloc: Global, word: &str) -> Result<LowerName, TextError> {
+    let name = read_name(alloc, &mut Words::new(word.as_bytes()))?;
+    Ok(LowerName::new(&name)?)
+}
+
+/// What octets ask for that are an update.
+fn asked_of(alloc: Global, octets: &[u8]) -> Result<UpdateMessage, TextError> {
+    match update_message::read_update(alloc, octets) {
+        Ok(asked) => Ok(asked),
+        Err(UpdateError::Memory) => Err(TextError::Memory),
+        Err(_) => Err(TextError::BadText),
+    }
+}
+
+/// Commits an update: which signatures are made; or why it isn't.
+fn committed_text(alloc: Global, case: &mut Case, prepared: Prepared) -> Result<String, TextError> {
+    let told = blanks_text(alloc, &prepared.plan)?;
+    match put_in(alloc, case, prepared)? {
+        None => Ok(told),
+        Some(fault) => Ok(format!(in alloc; "{fault:?}")?),
     }
 }
 
@@ -105,7 +185,15 @@ fn prepared(alloc: Global, case: &Case, text: &str) -> Result<Result<Prepared, S
     let update = read_update(alloc, text)?;
     let origin = LowerName::new(&case.origin)?;
     let signing = signing_of(alloc, case)?;
-    match prepare(alloc, origin, &case.zone, update, signing) {
+    told(alloc, prepare(alloc, origin, &case.zone, update, signing))
+}
+
+/// An update that ended so, if it is prepared, or what is told where it isn't.
+fn told(
+    alloc: Global,
+    outcome: Result<Option<Prepared>, PrepareFault>,
+) -> Result<Result<Prepared, String>, TextError> {
+    match outcome {
         Ok(Some(prepared)) => Ok(Ok(prepared)),
         Ok(None) => Ok(Err(format!(in alloc; "nothing")?)),
         Err(PrepareFault::Refused(Refusal::Memory)) => Err(TextError::Memory),
