@@ -54,8 +54,10 @@ static void cut(struct journal *journal, int fd, off_t length) {
 
 int write_file(const char *path, const uint8_t *octets, size_t length, mode_t mode) {
     int fd = open(path, O_WRONLY | O_CREAT | O_TRUNC | O_CLOEXEC, mode), is_bad = fd < 0 || write_all(fd, octets, length) || fsync(fd);
-    if (is_bad) log_line("%s: %s", path, strerror(errno));
+    int why = errno;   /* which the caller may tell */
+    if (is_bad) log_line("%s: %s", path, strerror(why));
     if (fd >= 0) close(fd);
+    errno = why;
     return is_bad ? -1 : 0;
 }
 

@@ -394,8 +394,8 @@ const char *zones_write(char *origin) {
     if (code == NK_NO_ROOM && (text = malloc(length))) code = nk_zones_write(&served, OCTETS(origin), text, length, &length);
     struct stat found = {0};
     stat(zone->file.path, &found);
-    snprintf(path, sizeof path, "%s.new", zone->file.path);
-    const char *why = code == NK_NO_ZONE ? "it isn't served" : code != NK_DONE ? "out of memory" : NULL;
+    int is_long = snprintf(path, sizeof path, "%s.new", zone->file.path) >= (int)sizeof path;
+    const char *why = code == NK_NO_ZONE ? "it isn't served" : code != NK_DONE ? "out of memory" : is_long ? "the path of its file is too long" : NULL;
     if (!why && (write_file(path, text, length, (found.st_mode & 0777) | 0600) || rename(path, zone->file.path))) why = strerror(errno), unlink(path);
     if (text != none) free(text);
     nk_zones_free(&served);

@@ -45,7 +45,7 @@ int journal_is_readable(const struct journal *journal);
  * changed before. A last frame that isn't whole is cut off; a journal that doesn't fit the file, or of which the file has all, is put aside as
  * ORIGIN.journal.old. Returns NK_DONE or NK_NO_MEMORY. */
 uint32_t journal_replay(struct journal *journal, nk_zones *zones, nk_steps *steps);
-/* Writes a file that outlasts whatever happens. Returns 0, or -1 once it is logged why not. */
+/* Writes a file that outlasts whatever happens. Returns 0, or -1 with errno once it is logged why not. */
 int write_file(const char *path, const uint8_t *octets, size_t length, mode_t mode);
 /* Has a frame outlast whatever happens. Returns 0, or -1 once it is logged why not: then the journal is what it was, or closed. */
 int journal_append(struct journal *journal, const uint8_t *frame, size_t length);
