@@ -6,7 +6,6 @@ use Rattle.std.specs.declared.alloc.Global.{Global}
 use Rattle.std.specs.Prelude.{get_or, IfSome}
 use Rattle.zone_proto.specs.Names.{Name, IsName, wire_form, wire_length}
 use Rattle.message_reading.specs.declared.query.Query.{Query}
-use Rattle.message_reading.specs.declared.question.Question.{Question}
 use Rattle.message_reading.specs.Messages.{question_of}
 use Rattle.message_writing.specs.declared.error.WriteError.{WriteError}
 use Rattle.message_writing.specs.declared.error.WriteError.TheVariants as errors
@@ -48,16 +47,16 @@ same_opts head r x h k =
 
 -- ---- begun
 
-pub begins : (limit : ℕ) (head : ResponseHead) (alloc : Global) (question : Bor Question) (asked : Option (Bor Name)) (room : ℕ) (hints : Hints)
+pub begins : (limit : ℕ) (head : ResponseHead) (alloc : Global) (asked : Option (Bor Name)) (room : ℕ) (hints : Hints)
     (blank start : List ℕ) → length blank ≡ 12 → Appends question_of blank start head.query.now.question
     → opt_octets head.query.now.extension ≤ limit → room ≡ limit - opt_octets head.query.now.extension
     → (r : Response) → IsHeadOf head r → HasNoGroups r → IsUnderway limit r (record {
       head = head;
-      setting = record { alloc = alloc; question = question; asked = asked; room = room };
+      setting = record { alloc = alloc; asked = asked; room = room };
       hints = hints;
       counts = record { answers = 0; authorities = 0; additionals = 0; truncated = false };
     }) start
-begins limit head alloc question asked room hints blank start twelve read fits room_is r h none =
+begins limit head alloc asked room hints blank start twelve read fits room_is r h none =
     let opts = opts_by_head head r h in
     record {
       head = h;

@@ -7,7 +7,7 @@ ghost use Rattle.message_writing.specs.DataText.{AreCuts, AreShort, AreTimers, I
 
 use crate::denial_writer::{push_nsec, push_nsec3, push_nsec3param};
 use crate::fingerprints::Fingerprint;
-use crate::hints::Hint;
+use crate::hints::Hints;
 use crate::name_writer::{Cut, cut_of, push_cut, push_wire};
 use crate::numbers::{push_long, push_short};
 use std::alloc::AllocError;
@@ -28,7 +28,7 @@ const WHOLE: Cut = Cut {
 };
 
 /// Where the names of data are cut that may have pointers: those in the types of RFC 1035, and in no other (RFC 3597 section 4).
-pub(crate) fn data_cuts(out: &[u8], hints: &[Hint], rdata: &RData) -> DataCuts
+pub(crate) fn data_cuts(out: &[u8], hints: &Hints, rdata: &RData) -> DataCuts
     ensures { AreCuts out.now result.first result.second rdata.now }
 {
     match rdata {

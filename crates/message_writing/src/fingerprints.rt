@@ -1,8 +1,6 @@
 //! Fingerprints of names: names of the same labels have the same, and other names mostly have another, so that few names are compared
 //! label by label.
 
-use zone_proto::Labels;
-
 /// What the sum is multiplied by for each further label.
 const STEP: u32 = 0x0100_0193;
 
@@ -21,16 +19,20 @@ impl Fingerprint {
     /// The fingerprint of the root.
     pub(crate) const OF_ROOT: Fingerprint = Fingerprint { sum: 0, scale: 1 };
 
-    /// The fingerprint of a name.
-    pub(crate) fn of(name: Labels<'_>) -> Fingerprint {
-        let mut made = Fingerprint::OF_ROOT;
-        for label in name {
-            made = Fingerprint {
-                sum: made.sum.wrapping_mul(STEP).wrapping_add(part_of(label)),
-                scale: made.scale.wrapping_mul(STEP),
-            };
+    /// The fingerprint of the name with this label behind its last.
+    pub(crate) fn with(self, last: &[u8]) -> Fingerprint {
+        Fingerprint {
+            sum: self.sum.wrapping_mul(STEP).wrapping_add(part_of(last)),
+            scale: self.scale.wrapping_mul(STEP),
         }
-        made
+    }
+
+    /// The fingerprint of the name with the labels of another behind its last.
+    pub(crate) fn followed_by(self, end: Fingerprint) -> Fingerprint {
+        Fingerprint {
+            sum: self.sum.wrapping_mul(end.scale).wrapping_add(end.sum),
+            scale: self.scale.wrapping_mul(end.scale),
+        }
     }
 
     /// The fingerprint of the name without its first label, which is this one.

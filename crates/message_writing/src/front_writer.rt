@@ -109,7 +109,6 @@ fn compose_front(
     }
     let setting = Setting {
         alloc,
-        question,
         asked: None,
         room: limit - OPT_OCTETS * opts,
     };

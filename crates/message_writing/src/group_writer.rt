@@ -8,7 +8,6 @@ use crate::error::WriteError;
 use crate::hints::Hints;
 use crate::record_writer::write_record;
 use crate::response::Group;
-use message_reading::Question;
 use std::alloc::Global;
 use zone_proto::{LowerName, Record};
 
@@ -16,8 +15,6 @@ use zone_proto::{LowerName, Record};
 #[derive(Clone, Copy)]
 pub(crate) struct Setting<'q> {
     pub(crate) alloc: Global,
-    /// The question, which comes after the header.
-    pub(crate) question: &'q Question,
     /// The name of the question, if it is in lower case and a pointer to it stands for the whole name.
     pub(crate) asked: Option<&'q LowerName>,
     /// How many octets the message may have without its OPT record.

@@ -33,6 +33,17 @@ pub(crate) fn is_known(out: &[u8], offset: u16, labels: Labels<'_>) -> bool
     offset >= 12 && offset < 16384 && stands_at(out, usize::from(offset), labels)
 }
 
+/// Whether a label may stand at an offset: whether its length does, and behind that its first octet.
+pub(crate) fn may_stand_at(out: &[u8], offset: u16, label: &[u8]) -> bool {
+    let at = usize::from(offset);
+    match (out.get(at), out.get(at + 1), label.first()) {
+        (Some(count), Some(octet), Some(first)) => {
+            usize::from(*count) == label.len() && *octet == *first
+        }
+        _ => false,
+    }
+}
+
 /// Whether the name at this offset has exactly these labels, their case included; the pointers on the way are followed.
 fn stands_at(out: &[u8], offset: usize, labels: Labels<'_>) -> bool
     ensures { IsTrue result → StandsAt out.now offset labels.entry }
@@ -85,5 +96,22 @@ fn after_label<'o>(octets: &'o [u8], label: &[u8]) -> Option<&'o [u8]>
         return None;
     }
     let (front, after) = rest.split_at(label.len());
-    if *front == *label { Some(after) } else { None }
+    if are_same(front, label) {
+        Some(after)
+    } else {
+        None
+    }
+}
+
+/// Whether as many octets are the same.
+fn are_same(octets: &[u8], others: &[u8]) -> bool
+    requires { length octets.now ≡ length others.now }
+    ensures { IsTrue result → octets.now ≡ others.now }
+{
+    for place in 0..others.len() {
+        if octets[place] != others[place] {
+            return false;
+        }
+    }
+    true
 }

@@ -1,11 +1,11 @@
 //! Names written into a message, with compression (RFC 1035 section 4.1.4).
-ghost use Rattle.std.specs.Prelude.{◌≡◌, ◌≤◌, ◌++◌, ◌∷◌, [], length, OnOk};
-ghost use Rattle.message_writing.specs.KnownNames.{IsCut, IsShort, cut_text, ending};
+ghost use Rattle.std.specs.Prelude.{◌≡◌, ◌≤◌, ◌++◌, ◌∷◌, [], drop, length, OnOk};
+ghost use Rattle.message_writing.specs.KnownNames.{IsCut, IsRest, IsShort, cut_text, ending};
 ghost use Rattle.zone_proto.specs.Names.{IsName, wire_form, wire_length};
 
 use crate::fingerprints::Fingerprint;
-use crate::hints::Hint;
-use crate::known_names::find;
+use crate::hints::{Hint, Hints};
+use crate::known_names::{find, is_known, may_stand_at};
 use crate::numbers::{push_label, push_pointer};
 use std::alloc::AllocError;
 use zone_proto::Labels;
@@ -19,34 +19,82 @@ pub(crate) struct Cut {
     pub(crate) fingerprint: Fingerprint,
 }
 
+/// How many ends of a name are compared with the one that names mostly end with. Mostly the first is it that may be; of a name of many
+/// labels that are alike each may be.
+const MAX_COMPARED: usize = 4;
+
 /// Where a name is cut: before its longest end that is at one of the hinted offsets. However many labels it has, few ends are
-/// compared label by label: those with the fingerprint of a hint.
-pub(crate) fn cut_of(out: &[u8], hints: &[Hint], name: Labels<'_>) -> Cut
+/// compared label by label: those with the fingerprint of a hint, and up to `MAX_COMPARED` with the name that names mostly end with, so
+/// that of a name that has it only the labels before it are gone through for longer ends.
+pub(crate) fn cut_of(out: &[u8], hints: &Hints, name: Labels<'_>) -> Cut
     requires { IsName name }
     ensures { IsCut out.now result.labels result.pointer name.entry }
 {
-    let whole = Fingerprint::of(name.clone());
-    let mut fingerprint = whole;
-    let mut left = name;
+    let end = hints.end();
+    let mut fingerprint = Fingerprint::OF_ROOT;
+    let mut left = name.clone();
     let mut labels = 0usize;
+    let mut compared = 0usize;
     loop {
         let here = left.clone();
         let Some(first) = left.next() else {
-            return Cut {
-                labels,
-                pointer: None,
-                fingerprint: whole,
-            };
+            break;
         };
-        if let Some(offset) = find(out, hints, fingerprint, &here) {
+        if compared < MAX_COMPARED && may_stand_at(out, end.offset, first) {
+            compared += 1;
+            if is_known(out, end.offset, here) {
+                let whole = fingerprint.followed_by(end.fingerprint);
+                return cut_before(out, hints.as_slice(), whole, name, labels, Some(end.offset));
+            }
+        }
+        fingerprint = fingerprint.with(first);
+        labels += 1;
+    }
+    cut_before(out, hints.as_slice(), fingerprint, name, labels, None)
+}
+
+/// Where a name of a fingerprint is cut that can be cut behind so many of its labels, since a pointer or nothing stands for its
+/// rest: there, or before a longer end that is at one of the hinted offsets.
+fn cut_before(
+    out: &[u8],
+    hints: &[Hint],
+    fingerprint: Fingerprint,
+    name: Labels<'_>,
+    most: usize,
+    pointer: Option<u16>,
+) -> Cut
+    requires most { most ≤ length name }
+    requires rest { IsRest out.now pointer (drop most name) }
+    ensures { IsCut out.now result.labels result.pointer name.entry }
+{
+    let mut left = name;
+    let mut of_left = fingerprint;
+    for labels in 0..most {
+        if labels > 0 {
+            of_left = without_first(&mut left, of_left);
+        }
+        if let Some(offset) = find(out, hints, of_left, &left) {
             return Cut {
                 labels,
                 pointer: Some(offset),
-                fingerprint: whole,
+                fingerprint,
             };
         }
-        fingerprint = fingerprint.without(first);
-        labels += 1;
+    }
+    Cut {
+        labels: most,
+        pointer,
+        fingerprint,
+    }
+}
+
+/// Takes the first label off, if there is one, and gives the fingerprint of the rest.
+fn without_first(left: &mut Labels<'_>, fingerprint: Fingerprint) -> Fingerprint
+    ensures { left.new ≡ drop 1 left.old }
+{
+    match left.next() {
+        Some(first) => fingerprint.without(first),
+        None => fingerprint,
     }
 }
 

@@ -39,7 +39,7 @@ pub(crate) fn write_record(
     }
     let start = out.as_slice().len();
     let owner = owner_cut(out.as_slice(), hints, setting, &r.name)?;
-    let cuts = names_cut(out.as_slice(), hints, setting, &r.rdata)?;
+    let cuts = names_cut(out.as_slice(), hints, &r.rdata)?;
     push_cut(out, owner, r.name.labels())?;
     push_fields(out, ttl, r)?;
     let at = out.as_slice().len();
@@ -47,8 +47,8 @@ pub(crate) fn write_record(
     push_data(out, cuts, &r.rdata)?;
     let count = out.as_slice().len() - at - 2;
     put_short(out, at, count as u16);
-    hints.note_owner(start, owner, r.name.labels())?;
-    note_names(hints, at + 2, cuts, &r.rdata)?;
+    hints.note_owner(out.as_slice(), start, owner)?;
+    note_names(out.as_slice(), hints, at + 2, cuts, &r.rdata)?;
     Ok(())
 }
 
@@ -69,8 +69,10 @@ fn owner_cut(
     if is_known(out, last, owner.labels()) {
         return Ok(pointer_to(last));
     }
-    hints.note_question(setting.question)?;
-    Ok(cut_of(out, hints.as_slice(), owner.labels()))
+    hints.note_question(out)?;
+    let cut = cut_of(out, hints, owner.labels());
+    hints.note_end(cut);
+    Ok(cut)
 }
 
 /// A pointer in place of a whole name.
@@ -96,21 +98,16 @@ fn is_asked(setting: &Setting<'_>, name: &Name) -> bool
 }
 
 /// How the names of data are cut.
-fn names_cut(
-    out: &[u8],
-    hints: &mut Hints,
-    setting: &Setting<'_>,
-    rdata: &RData,
-) -> Result<DataCuts, AllocError>
+fn names_cut(out: &[u8], hints: &mut Hints, rdata: &RData) -> Result<DataCuts, AllocError>
     ensures { IfOk result (λ cuts. AreCuts out.now cuts.first cuts.second rdata.now) }
 {
     match rdata {
         RData::NS(_) | RData::CNAME(_) | RData::MX(_) | RData::SOA(_) => {
-            hints.note_question(setting.question)?;
+            hints.note_question(out)?;
         }
         _ => {}
     }
-    Ok(data_cuts(out, hints.as_slice(), rdata))
+    Ok(data_cuts(out, hints, rdata))
 }
 
 /// Appends what stands between the owner of a record and RDLENGTH.
@@ -136,15 +133,15 @@ fn push_fields(out: &mut Vec<u8>, ttl: u32, r: &Record) -> Result<(), AllocError
 
 /// Keeps the offsets of the names in data, which begin at an offset, that may have pointers.
 fn note_names(
+    out: &[u8],
     hints: &mut Hints,
     at: usize,
     cuts: DataCuts,
     rdata: &RData,
 ) -> Result<(), AllocError> {
     match rdata {
-        RData::NS(name) | RData::CNAME(name) => hints.note(at, cuts.first, name.labels()),
-        RData::MX(mx) => hints.note(at.saturating_add(2), cuts.first, mx.exchange.labels()),
-        RData::SOA(soa) => hints.note(at, cuts.first, soa.mname.labels()),
+        RData::NS(_) | RData::CNAME(_) | RData::SOA(_) => hints.note(out, at, cuts.first),
+        RData::MX(_) => hints.note(out, at.saturating_add(2), cuts.first),
         _ => Ok(()),
     }
 }

@@ -9,7 +9,6 @@ use crate::hints::Hints;
 use crate::message_parts::{
     Counts, GREATEST_CODE, OPT_OCTETS, opt_count, push_opt, push_question, put_header,
 };
-use crate::name_writer::wire_length;
 use crate::response::{Group, ResponseHead, Section, without_groups};
 use message_reading::Question;
 use std::alloc::{AllocError, Global};
@@ -56,18 +55,19 @@ impl<'q> ResponseWriter<'q> {
             return Err(WriteError::BadCode);
         }
         let question = &head.query.question;
+        // That its name has no more octets than a name may have is told where its labels are lent.
+        let _labels = question.name.labels();
         let opts = opt_count(&without_groups(head));
-        let name = wire_length(question.name.labels());
+        out.extend_from_slice(&[0; 12])?;
+        push_question(out, question)?;
+        let name = out.as_slice().len() - 16;
         let most = usize::from(limit);
         let least = 12 + (name + 4) + OPT_OCTETS * opts;
         if most < least {
             return Err(WriteError::NoRoom);
         }
-        out.extend_from_slice(&[0; 12])?;
-        push_question(out, question)?;
         let setting = Setting {
             alloc,
-            question,
             asked: pointed_to(asked, question, name),
             room: most - OPT_OCTETS * opts,
         };

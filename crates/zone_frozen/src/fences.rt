@@ -15,7 +15,8 @@ const MOST_HALVES: usize = 64;
 pub(crate) struct Fences {
     ranks: Vec<u64>,
     origin_labels: usize,
-    passed: usize,
+    /// The octets with which all these labels begin.
+    front: Vec<u8>,
 }
 
 impl Fences {
@@ -28,23 +29,24 @@ impl Fences {
             Some(row) => row.0.name.num_labels(),
             None => 0,
         };
-        let passed = common_octets(rows, origin_labels);
+        let mut front = Vec::new(alloc);
+        front.extend_from_slice(common_front(rows, origin_labels))?;
         let mut ranks = Vec::with_capacity(alloc, rows.len() / STRIDE + 1)?;
         for (place, row) in rows.iter().enumerate() {
             if place % STRIDE == 0 {
-                ranks.push(rank_of(&row.0.name, origin_labels, passed))?;
+                ranks.push(rank_of(&row.0.name, origin_labels, front.as_slice()))?;
             }
         }
         Ok(Fences {
             ranks,
             origin_labels,
-            passed,
+            front,
         })
     }
 
     /// A place where the sets from a key on may start.
     pub(crate) fn near(&self, rows: &[(RrKey, RecordSet)], least: &RrKey) -> usize {
-        let rank = rank_of(&least.name, self.origin_labels, self.passed);
+        let rank = rank_of(&least.name, self.origin_labels, self.front.as_slice());
         let low = first_fence(self.ranks.as_slice(), rank);
         let high = first_fence(self.ranks.as_slice(), rank.saturating_add(1));
         let first = low.saturating_sub(1).saturating_mul(STRIDE);
@@ -53,17 +55,18 @@ impl Fences {
     }
 }
 
-/// With how many octets the labels below the origin all begin: those of the second name and of the last.
-fn common_octets(rows: &[(RrKey, RecordSet)], origin_labels: usize) -> usize {
+/// The octets with which the labels below the origin all begin: those of the second name and of the last.
+fn common_front(rows: &[(RrKey, RecordSet)], origin_labels: usize) -> &[u8] {
     let first = rows
         .iter()
         .find(|row| row.0.name.num_labels() > origin_labels);
     match (first, rows.last()) {
-        (Some(first), Some(last)) => shared(
-            label_below(&first.0.name, origin_labels),
-            label_below(&last.0.name, origin_labels),
-        ),
-        _ => 0,
+        (Some(first), Some(last)) => {
+            let label = label_below(&first.0.name, origin_labels);
+            let count = shared(label, label_below(&last.0.name, origin_labels));
+            label.get(..count).unwrap_or(&[])
+        }
+        _ => &[],
     }
 }
 
@@ -95,13 +98,19 @@ fn label_below(name: &LowerName, origin_labels: usize) -> &[u8] {
     &[]
 }
 
-/// The eight octets of that label behind the first ones, as a number: of two names below the origin that begin alike there, the one
-/// that comes first has no greater number.
-fn rank_of(name: &LowerName, origin_labels: usize, passed: usize) -> u64 {
+/// The eight octets of that label behind the ones with which all begin, as a number; of one that begins otherwise the least number or the
+/// greatest, as it comes before all the others or behind them. So of two names the one that comes first has no greater number.
+fn rank_of(name: &LowerName, origin_labels: usize, front: &[u8]) -> u64 {
     let label = label_below(name, origin_labels);
+    let Some(begun) = label.get(..front.len()) else {
+        return if *label < *front { 0 } else { u64::MAX };
+    };
+    if *begun != *front {
+        return if *begun < *front { 0 } else { u64::MAX };
+    }
     let mut rank = 0u64;
     for place in 0..8usize {
-        let octet = match label.get(passed.wrapping_add(place)) {
+        let octet = match label.get(front.len().wrapping_add(place)) {
             Some(octet) => u64::from(*octet),
             None => 0,
         };

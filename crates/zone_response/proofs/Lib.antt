@@ -7,6 +7,7 @@ pub mod SearchCounts
 pub mod NodeCases
 pub mod StandInFacts
 pub mod StepCases
+pub mod UnderApex
 pub mod NewNames
 pub mod PathSteps
 pub mod PathNames

@@ -1,5 +1,5 @@
 //! What turns a search on its way from the origin down to a name: the first zone cut or DNAME.
-ghost use Rattle.std.specs.Prelude.{◌≡◌, ◌+◌, ◌*◌, ◌<◌, ◌≤◌, ℕ, None, cond, length, IfOk, IsOkUnless, option_copied, option_map, true};
+ghost use Rattle.std.specs.Prelude.{◌≡◌, ◌+◌, ◌*◌, ◌<◌, ◌≤◌, ℕ, None, cond, length, IfOk, IsOkUnless, IsTrue, option_copied, option_map, true};
 ghost use Rattle.zone_map.specs.Zones.{Sets, set_at};
 ghost use Rattle.zone_proto.specs.Names.{is_at_or_above, name_eq};
 ghost use Rattle.zone_proto.specs.Types.{NS, SOA, DNAME};
@@ -7,8 +7,9 @@ ghost use Rattle.zone_response.specs.NodeSets.{StandsAt};
 ghost use Rattle.zone_response.specs.Descent.{cut_at, diversion, diversion_above, diversion_by, diversion_of};
 ghost use Rattle.zone_response.specs.Neighbours.{IsInTree, NoLongerOwns};
 ghost use Rattle.zone_response.specs.Searches.{names_between};
+ghost use Rattle.zone_response.specs.Wildcards.{IsUnderApex};
 
-use crate::names::same_name;
+use crate::names::{is_child, same_name};
 use crate::neighbours::labels_before;
 use crate::node_sets::{NodeSets, read_apex, read_node_sets};
 use zone_lookup::InnerInMemory;
@@ -101,6 +102,46 @@ pub(crate) fn diversion_from_apex<'z, S: Signer>(
         below = above;
     }
     Ok(found)
+}
+
+/// Whether a name of the zone is one label below its origin, which exists, by what is at the origin. If not, it may be so nevertheless.
+pub(crate) fn is_under_apex(origin: &LowerName, apex: NodeSets<'_>, name: &LowerName) -> bool
+    requires { is_at_or_above origin.now name.now ≡ true }
+    ensures { (m : Sets) → StandsAt m origin.now SOA DNAME apex.entry
+        → IsTrue result → IsUnderApex m origin.now name.now }
+{
+    match apex.first_asked {
+        Some(_) => is_child(origin, name),
+        None => false,
+    }
+}
+
+/// The same, where it may be known that the name is one label below the origin: then only what is at the origin is above it.
+pub(crate) fn diversion_on_way<'z, S: Signer>(
+    inner: &'z InnerInMemory<S>,
+    origin: &LowerName,
+    apex: NodeSets<'z>,
+    name: &LowerName,
+    under_apex: bool,
+    searches: &mut Counter,
+) -> Result<Option<Diverting<'z>>, ProtoError>
+    requires inside { is_at_or_above origin.now name.now ≡ true }
+    requires apex { StandsAt inner.now.records origin.now SOA DNAME apex }
+    requires under_apex { IsTrue under_apex
+        → IsUnderApex inner.now.records origin.now name.now }
+    ensures ok { (t : ℕ)
+        → IfOk result
+        (λ found. option_map diversion_of found
+        ≡ diversion_above origin.now inner.now.records name.now t name.now) }
+    ensures counted { searches.new
+        ≤ searches.old + 1
+        + 2 * length (names_between origin.now inner.now.records name.now) }
+    ensures err { IsOkUnless result ProtoError.Memory }
+{
+    if under_apex {
+        return Ok(diversion_by(None, apex.second_asked));
+    }
+    diversion_from_apex(inner, origin, apex, name, searches)
 }
 
 /// As many labels as an ancestor of a name has at most that owns a set, and at least so many as are given. One search tells,

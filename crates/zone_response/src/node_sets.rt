@@ -11,6 +11,7 @@ ghost use Rattle.zone_map.specs.Wildcards.{exists};
 ghost use Rattle.zone_map.specs.Zones.{set_at, IsZone};
 ghost use Rattle.zone_response.specs.NodeSets.{sets_from, StandsAt};
 
+use crate::cursor::sets_near;
 use zone_lookup::InnerInMemory;
 use zone_map::{Counter, SetMap, SetRange, is_denial_type};
 use zone_proto::{LowerName, ProtoError, RecordSet, RecordType, RrKey, Signer};
@@ -56,6 +57,31 @@ pub(crate) fn read_apex<'z, S: Signer>(
         RecordType::SOA,
         RecordType::DNAME,
     ))
+}
+
+/// What is at the name of its least key as [`read_node_sets`] gives it, where the name mostly stands close behind the zone's origin, as
+/// the wildcard below that does: so mostly no search of the zone finds it. Searches are counted.
+pub(crate) fn read_near_origin<'z, S: Signer>(
+    inner: &'z InnerInMemory<S>,
+    origin: &LowerName,
+    least: &RrKey,
+    first_asked: RecordType,
+    second_asked: RecordType,
+    searches: &mut Counter,
+) -> Result<NodeSets<'z>, ProtoError>
+    requires { least.now.record_type.0 ≡ 0 }
+    ensures ok { IfOk result
+        (StandsAt inner.now.records least.now.name first_asked.0 second_asked.0) }
+    ensures counted { searches.new ≤ searches.old + 2 }
+    ensures err { IsOkUnless result ProtoError.Memory }
+{
+    let sets = inner.as_map();
+    let top = RrKey::first_of(origin)?;
+    searches.add_one();
+    let near = sets.from_top(&top);
+    searches.add_one();
+    let from = sets_near(sets, Some(near), least)?;
+    Ok(node_sets_in(sets, from, least, first_asked, second_asked))
 }
 
 /// The same in a map of sets by their keys, by its sets from that key on.

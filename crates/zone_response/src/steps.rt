@@ -1,5 +1,5 @@
 //! One step of a search: what a name of a chain is answered with.
-ghost use Rattle.std.specs.Prelude.{◌≡◌, ◌+◌, ◌≤◌, ◌++◌, ◌∷◌, [], true, IfOk, OnOk, IsOkUnless};
+ghost use Rattle.std.specs.Prelude.{◌≡◌, ◌+◌, ◌≤◌, ◌++◌, ◌∷◌, [], true, IfOk, IsTrue, OnOk, IsOkUnless, Some};
 ghost use Rattle.zone_map.specs.Chains.{cname_target};
 ghost use Rattle.zone_proto.specs.Names.{is_at_or_above};
 ghost use Rattle.zone_proto.specs.Types.{CNAME, SOA, DNAME};
@@ -12,13 +12,14 @@ ghost use Rattle.zone_response.specs.NodeSets.{StandsAt};
 ghost use Rattle.zone_response.specs.Steps.{step, diverted_step, target_step, new_name_step, after_renaming, name_step, wildcard_step, node_step, keeps, as_found_for, expanded_names, own_part, after_alias, missing as missing_at, ends, next_of, Takes};
 ghost use Rattle.zone_response.specs.Descent.{diversion_at};
 ghost use Rattle.zone_response.specs.Searches.{most_for_name, most_for_wildcard};
+ghost use Rattle.zone_response.specs.Wildcards.{source_of_synthesis, IsUnderApex};
 
 use crate::aname::stand_in_step;
-use crate::descent::{Diverting, diversion_from_apex, own_cut};
+use crate::descent::{Diverting, diversion_on_way, is_under_apex, own_cut};
 use crate::dname::{dname_target, in_place_of, synthesized_alias};
 use crate::lists::{push, send, send_made, send_unless_among};
 use crate::names::is_at_or_above;
-use crate::node_sets::{NodeSets, exists, read_node_sets};
+use crate::node_sets::{NodeSets, exists, read_near_origin, read_node_sets};
 use crate::nodes::{Node, at_node};
 use crate::response::{Part, Sent};
 use crate::wildcards::source_of_synthesis;
@@ -112,22 +113,26 @@ pub(crate) fn step<'z, S: Signer>(
     if !is_at_or_above(asked.origin, name) {
         return Ok(Next::Ends(End::Outside(name.clone()?)));
     }
-    match diversion_from_apex(inner, asked.origin, apex, name, searches)? {
+    let under_apex = is_under_apex(asked.origin, apex, name);
+    match diversion_on_way(inner, asked.origin, apex, name, under_apex, searches)? {
         Some(Diverting::Cut(cut)) => Ok(Next::Ends(End::Referred(cut))),
         Some(Diverting::Renaming(dname)) => target_step(dname, name, asked, so_far),
-        None => own_step(inner, asked, name, so_far, searches),
+        None => own_step(inner, asked, name, under_apex, so_far, searches),
     }
 }
 
-/// The step from a name of the zone above which nothing turns.
+/// The step from a name of the zone above which nothing turns. It may be known that the name is one label below the origin, which exists.
 fn own_step<'z, S: Signer>(
     inner: &'z InnerInMemory<S>,
     asked: Asked<'_>,
     name: &LowerName,
+    under_apex: bool,
     so_far: &mut SoFar<'z>,
     searches: &mut Counter,
 ) -> Result<Next<'z>, LookupError>
-    requires { is_at_or_above asked.origin.now name.now ≡ true }
+    requires inside { is_at_or_above asked.origin.now name.now ≡ true }
+    requires apex { IsTrue under_apex
+        → IsUnderApex inner.now.records asked.origin.now name.now }
     ensures ok { IfOk result
         (λ next. Takes
         (diverted_step (inquiry_of S.signature_of asked.entry inner.now)
@@ -144,7 +149,7 @@ fn own_step<'z, S: Signer>(
     if let Some(cut) = own_cut(here.ns, asked.origin, name, asked.record_type) {
         return Ok(Next::Ends(End::Referred(cut)));
     }
-    name_step(inner, asked, name, key, here, so_far, searches)
+    name_step(inner, asked, name, key, here, under_apex, so_far, searches)
 }
 
 /// The step from a name below the owner of a DNAME set.
@@ -210,12 +215,15 @@ fn name_step<'z, S: Signer>(
     name: &LowerName,
     key: RrKey,
     here: NodeSets<'z>,
+    under_apex: bool,
     so_far: &mut SoFar<'z>,
     searches: &mut Counter,
 ) -> Result<Next<'z>, LookupError>
     requires name { key.name ≡ name.now }
     requires least { key.record_type.0 ≡ 0 }
     requires here { StandsAt inner.now.records key.name asked.record_type.0 CNAME here }
+    requires apex { IsTrue under_apex
+        → IsUnderApex inner.now.records asked.origin.now name.now }
     ensures ok { IfOk result
         (λ next. Takes (name_step (inquiry_of S.signature_of asked.entry inner.now) name.now)
         so_far.old so_far.new next) }
@@ -228,8 +236,40 @@ fn name_step<'z, S: Signer>(
         let node = at_node(inner, &mut key, asked.record_type, here, searches)?;
         return node_step(inner, node, None, name, asked, so_far);
     }
+    if under_apex {
+        return under_apex_step(inner, asked, name, so_far, searches);
+    }
     let wildcard = source_of_synthesis(inner, name, searches)?;
     wildcard_step(inner, asked, name, wildcard, so_far, searches)
+}
+
+/// The step from a name that doesn't exist, one label below the origin, which does: by the wildcard below the origin.
+fn under_apex_step<'z, S: Signer>(
+    inner: &'z InnerInMemory<S>,
+    asked: Asked<'_>,
+    name: &LowerName,
+    so_far: &mut SoFar<'z>,
+    searches: &mut Counter,
+) -> Result<Next<'z>, LookupError>
+    requires { IsUnderApex inner.now.records asked.origin.now name.now }
+    ensures ok { IfOk result
+        (λ next. Takes (wildcard_step (inquiry_of S.signature_of asked.entry inner.now) name.now
+        (source_of_synthesis inner.now.records name.now))
+        so_far.old so_far.new next) }
+    ensures counted { searches.new ≤ searches.old + 6 }
+    ensures err { IsOkUnless result LookupError.Memory }
+{
+    let wildcard = name.clone()?.into_wildcard();
+    let key = RrKey::first_of(&wildcard)?;
+    let here = read_near_origin(
+        inner,
+        asked.origin,
+        &key,
+        asked.record_type,
+        RecordType::CNAME,
+        searches,
+    )?;
+    starred_step(inner, asked, name, wildcard, key, here, so_far, searches)
 }
 
 /// The step from a name that doesn't exist, by the wildcard at its closest encloser.
@@ -251,9 +291,34 @@ fn wildcard_step<'z, S: Signer>(
     let Some(wildcard) = wildcard else {
         return Ok(at_missing(name, None, false)?);
     };
-    let mut key = RrKey::first_of(&wildcard)?;
+    let key = RrKey::first_of(&wildcard)?;
     searches.add_one();
     let here = read_node_sets(inner, &key, asked.record_type, RecordType::CNAME);
+    starred_step(inner, asked, name, wildcard, key, here, so_far, searches)
+}
+
+/// The step from a name that doesn't exist, by the least key of the wildcard at its closest encloser, and what is there.
+fn starred_step<'z, S: Signer>(
+    inner: &'z InnerInMemory<S>,
+    asked: Asked<'_>,
+    name: &LowerName,
+    wildcard: LowerName,
+    key: RrKey,
+    here: NodeSets<'z>,
+    so_far: &mut SoFar<'z>,
+    searches: &mut Counter,
+) -> Result<Next<'z>, LookupError>
+    requires name { key.name ≡ wildcard }
+    requires least { key.record_type.0 ≡ 0 }
+    requires here { StandsAt inner.now.records key.name asked.record_type.0 CNAME here }
+    ensures ok { IfOk result
+        (λ next. Takes (wildcard_step (inquiry_of S.signature_of asked.entry inner.now) name.now
+        (Some wildcard))
+        so_far.old so_far.new next) }
+    ensures counted { searches.new ≤ searches.old + 4 }
+    ensures err { IsOkUnless result LookupError.Memory }
+{
+    let mut key = key;
     if !exists(inner, &key, here, searches) {
         return Ok(at_missing(name, Some(wildcard), false)?);
     }

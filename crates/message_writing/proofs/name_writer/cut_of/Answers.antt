@@ -1,10 +1,10 @@
-use Rattle.std.proofs.Common.{◌≡◌, ◌+◌, length, drop, refl, sym, ap, ◌∙◌, arith}
+use Rattle.std.proofs.Common.{◌≡◌, ◌+◌, length, drop, sym, ap, ◌∙◌, arith}
 use Rattle.std.proofs.lemmas.List.{drop-drop}
 use Rattle.message_writing.proofs.NameWriting.{few_labels}
 use Rattle.message_writing.proofs.name_writer.cut_of.Goals as goal
 
 pub loop-first-init : goal.loop-first-init
-loop-first-init c = record { left = refl; count = omega arith; few = few_labels c.args.name c.requires }
+loop-first-init c = record { left = c.clone-left.ensures; count = omega (arith, ap length c.clone-left.ensures); few = few_labels c.args.name c.requires }
 
 pub loop-first-preserved : goal.loop-first-preserved
 loop-first-preserved c =

@@ -20,7 +20,7 @@ returns-in-Some-clause-ok g c =
     let s = c.in-Some.cut.now in
     let ns : option_copied c.read_node_sets-here.result.ns ≡ set_at m x NS = c.read_node_sets-here.ensures.ns ∙ ap (λ (k : RrKey). set_at m k.name NS) c.in_ok-key.ensures.copy.ok in
     at_its_end (diverted_step q before x (diversion_at q.origin m x q.record_type x)) (referred s) c.args.so_far.now _
-    (ap (diverted_step q before x) (sym (own_turn q.origin m x q.record_type (Some s) c.requires (ap option_copied (sym c.in-Some.is) ∙ c.own_cut.ensures m ns)))) refl
+    (ap (diverted_step q before x) (sym (own_turn q.origin m x q.record_type (Some s) c.requires.inside (ap option_copied (sym c.in-Some.is) ∙ c.own_cut.ensures m ns)))) refl
 
 pub returns-clause-ok : goal.returns-clause-ok
 returns-clause-ok g c =
@@ -30,4 +30,4 @@ returns-clause-ok g c =
     let before = sent_sets c.args.so_far.now.answers in
     let ns : option_copied c.read_node_sets-here.result.ns ≡ set_at m x NS = c.read_node_sets-here.ensures.ns ∙ ap (λ (k : RrKey). set_at m k.name NS) c.in_ok-key.ensures.copy.ok in
     same_step c.name_step.result c.args.so_far.now c.name_step.new.so_far (diverted_step q before x (diversion_at q.origin m x q.record_type x)) (name_step q x)
-    (ap (diverted_step q before x) (sym (own_turn q.origin m x q.record_type None c.requires (ap option_copied (sym c.in_default.is) ∙ c.own_cut.ensures m ns)))) c.name_step.ensures.ok
+    (ap (diverted_step q before x) (sym (own_turn q.origin m x q.record_type None c.requires.inside (ap option_copied (sym c.in_default.is) ∙ c.own_cut.ensures m ns)))) c.name_step.ensures.ok
