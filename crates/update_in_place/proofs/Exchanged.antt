@@ -25,6 +25,7 @@ use Rattle.zone_map.proofs.Owned.{type_in}
 use Rattle.zone_map.proofs.Putting.{found_without_all, keys_of-filter, none_of, same_entries, sorted_without_all}
 use Rattle.zone_difference.proofs.Found.{InOrder}
 use Rattle.update_in_place.specs.Parts.{is_among, keys_lacking, keys_of_name, sets_of}
+use Rattle.update_in_place.proofs.Replaced.{found_by}
 use Rattle.update_in_place.proofs.Kept.{found_kept, kept, kept_in_order, none_kept}
 
 -- ---- copies of a part
@@ -106,13 +107,6 @@ lacking_absent zone before after part q h =
     sym (part q.name q.record_type.0 (and_right (not (is_some (lookup (key_eq q) before))) (is_some (lookup (key_eq q) after)) both))
     ∙ none_of (lookup (key_eq q) before) (not_true (is_some (lookup (key_eq q) before)) (and_left (not (is_some (lookup (key_eq q) before))) (is_some (lookup (key_eq q) after)) both))
 
--- the sets that stand under keys that pass
-pub found_common : (m : Sets) (r : RrKey → Bool) (q : RrKey) → InOrder m → update_all key_eq (λ _. None) (filter (λ (e : RrKey × RRset). r e.0) m) q ≡ cond (r q) (lookup (key_eq q) m) None
-found_common m r q s =
-    update_all_none (eq_by_cmp_equiv key_cmp_total) key_eq (λ x y. refl) (filter (λ (e : RrKey × RRset). r e.0) m) q
-    (IsDistinct-keys_filter key_eq (λ (e : RrKey × RRset). r e.0) m (IsDistinct-from_sorted key_cmp (keys_of m) s))
-    ∙ lookup-filter-keys (key_eq q) r (r q) (λ k same. ap r (sym (key_same q k same))) m
-
 -- ---- what is undone
 
 pub undone : (old mid new : Sets) (ks : List RrKey) → InOrder old → InOrder mid → new ≡ without_all mid ks
@@ -125,45 +119,43 @@ undone old mid new ks o s is absent others =
     by q true h = sym (absent q h)
     by q false h = others q h
 
-or_none : (o : Option RRset) → option_or o None ≡ o
-or_none None = refl
-or_none (Some s) = refl
-
--- sets that were put under these keys alone leave the others
-pub put_alone : (old mid from : Sets) (ks : List RrKey)
-    → ((q : RrKey) → lookup (key_eq q) mid ≡ option_or (lookup (key_eq q) old) (if list_any (key_eq q) ks then lookup (key_eq q) from else None))
-    → (q : RrKey) → list_any (key_eq q) ks ≡ false → lookup (key_eq q) mid ≡ lookup (key_eq q) old
-put_alone old mid from ks put q h =
-    put q ∙ ap (λ b. option_or (lookup (key_eq q) old) (if b then lookup (key_eq q) from else None)) h ∙ or_none (lookup (key_eq q) old)
-
 -- ---- what is exchanged
 
+-- under a key: what came where none stood, then in the place of others, and nothing where it went
 exchanged_by : (a b o : Option RRset) → (is_some a ≡ true → b ≡ o)
-    → cond (not (is_some a) && is_some b) None (option_or (if is_some b then a else None) (option_or o (if not (is_some b) && is_some a then a else None)))
+    → cond (not (is_some a) && is_some b) None (found_by (if is_some b then a else None) (option_or o (if not (is_some b) && is_some a then a else None)))
     ≡ option_or a (if is_some b then None else o)
-exchanged_by (Some a) (Some b) o h = refl
+exchanged_by (Some a) (Some b) None h = let no : Some b ≡ None = h refl in absurd cc
+exchanged_by (Some a) (Some b) (Some s) h = refl
 exchanged_by (Some a) None None h = refl
 exchanged_by (Some a) None (Some s) h = let no : None ≡ Some s = h refl in absurd cc
 exchanged_by None (Some b) o h = refl
 exchanged_by None None None h = refl
 exchanged_by None None (Some s) h = refl
 
-pub exchanged_all : (old mid new before after common : Sets) → InOrder mid → ((n : Name) (t : ℕ) → owns after n t ≡ true → set_at before n t ≡ set_at old n t)
-    → ((n : Name) (t : ℕ) → set_at common n t ≡ (if owns before n t then set_at after n t else None))
-    → ((q : RrKey) → lookup (key_eq q) mid
-    ≡ option_or (lookup (key_eq q) common) (option_or (lookup (key_eq q) old) (if list_any (key_eq q) (keys_lacking after before) then lookup (key_eq q) after else None)))
-    → new ≡ without_all mid (keys_lacking before after)
-    → (n : Name) (t : ℕ) → set_at new n t ≡ option_or (set_at after n t) (if owns before n t then None else set_at old n t)
-exchanged_all old mid new before after common s part of_common put is n t =
-    let q : RrKey = key n t in
-    ap (λ (x : Sets). set_at x n t) is
-    ∙ found_without_all mid (keys_lacking before after) q s
-    ∙ ap (λ b. cond b None (lookup (key_eq q) mid)) (any_lacking before after q)
-    ∙ ap (cond (not (is_some (lookup (key_eq q) after)) && is_some (lookup (key_eq q) before)) None)
-    (put q
-    ∙ ap (λ (o : Option RRset). option_or o (option_or (lookup (key_eq q) old) (if list_any (key_eq q) (keys_lacking after before) then lookup (key_eq q) after else None))) (of_common n t)
-    ∙ ap (λ b. option_or (if owns before n t then set_at after n t else None) (option_or (lookup (key_eq q) old) (if b then lookup (key_eq q) after else None))) (any_lacking after before q))
-    ∙ exchanged_by (lookup (key_eq q) after) (lookup (key_eq q) before) (lookup (key_eq q) old) (part n t)
+module _ (old mid whole new before after common : Sets) (ordered : InOrder whole) (part : (n : Name) (t : ℕ) → owns after n t ≡ true → set_at before n t ≡ set_at old n t)
+    (is_common : common ≡ filter (λ (e : RrKey × RRset). owns before e.0.name e.0.record_type.0) after)
+    (put : (q : RrKey) → lookup (key_eq q) mid ≡ option_or (lookup (key_eq q) old) (if list_any (key_eq q) (keys_lacking after before) then lookup (key_eq q) after else None))
+    (replaced : (q : RrKey) → lookup (key_eq q) whole ≡ found_by (lookup (key_eq q) common) (lookup (key_eq q) mid))
+    (is : new ≡ without_all whole (keys_lacking before after)) where
+  found_common : (q : RrKey) → lookup (key_eq q) common ≡ (if is_some (lookup (key_eq q) before) then lookup (key_eq q) after else None)
+  found_common q =
+      ap (λ (m : Sets). lookup (key_eq q) m) is_common
+      ∙ lookup-filter-keys (key_eq q) (λ k. is_some (lookup (key_eq k) before)) (is_some (lookup (key_eq q) before))
+      (λ k same. ap (λ (x : RrKey). is_some (lookup (key_eq x) before)) (sym (key_same q k same))) after
+
+  pub exchanged_all : (n : Name) (t : ℕ) → set_at new n t ≡ option_or (set_at after n t) (if owns before n t then None else set_at old n t)
+  exchanged_all n t =
+      let q : RrKey = key n t in
+      ap (λ (m : Sets). set_at m n t) is
+      ∙ found_without_all whole (keys_lacking before after) q ordered
+      ∙ ap (λ b. cond b None (lookup (key_eq q) whole)) (any_lacking before after q)
+      ∙ ap (cond (not (is_some (lookup (key_eq q) after)) && is_some (lookup (key_eq q) before)) None)
+      (replaced q
+      ∙ ap (λ (o : Option RRset). found_by o (lookup (key_eq q) mid)) (found_common q)
+      ∙ ap (found_by (if owns before n t then set_at after n t else None))
+      (put q ∙ ap (λ b. option_or (lookup (key_eq q) old) (if b then lookup (key_eq q) after else None)) (any_lacking after before q)))
+      ∙ exchanged_by (lookup (key_eq q) after) (lookup (key_eq q) before) (lookup (key_eq q) old) (part n t)
 
 -- ---- the whole zone
 

@@ -3,6 +3,7 @@ pub mod Named
 pub mod Local
 pub mod About
 pub mod Copied
+pub mod Replaced
 pub mod Exchanged
 pub mod Alone
 pub mod Made

@@ -34,6 +34,10 @@ put_if m k o = unwrap_or (option_map (λ (s : RRset). put m k.name k.record_type
 abbrev pub with_copy : Sets → Sets → RrKey → Sets
 with_copy from m k = if is_some (lookup (key_eq k) m) then m else put_if m k (lookup (key_eq k) from)
 
+-- a set takes the place of the one under its key, where one stands
+abbrev pub with_replaced : Sets → RrKey × RRset → Sets
+with_replaced m e = if owns m e.0.name e.0.record_type.0 then put m e.0.name e.0.record_type.0 e.1 else m
+
 -- the keys of the sets under which another map has none
 abbrev pub keys_lacking : Sets → Sets → List RrKey
 keys_lacking m other = keys_of (filter (λ e. not (owns other e.0.name e.0.record_type.0)) m)

@@ -1,10 +1,11 @@
 //! Sets of a zone exchanged for others, all or nothing: what may be refused comes first, and what takes no memory last.
-ghost use Rattle.std.specs.Prelude.{◌≡◌, ℕ, true, not, None, filter, if◌then◌else◌, IfOk, OnOk, OnErr, IsOkUnless};
+ghost use Rattle.std.specs.Prelude.{◌≡◌, ℕ, true, not, is_some, None, filter, if◌then◌else◌, IfOk, OnOk, OnErr, IsOkUnless};
 ghost use Rattle.std.specs.List.{list_any};
-ghost use Rattle.std.specs.Map.{lookup};
+ghost use Rattle.std.specs.List.Sorted.{IsStrictlySortedBy};
+ghost use Rattle.std.specs.Map.{keys_of, lookup};
 ghost use Rattle.std.specs.Option.{option_or};
 ghost use Rattle.zone_proto.specs.declared.rr_key.RrKey.{RrKey as Key};
-ghost use Rattle.zone_proto.specs.Keys.{key_eq};
+ghost use Rattle.zone_proto.specs.Keys.{key_cmp, key_eq};
 ghost use Rattle.zone_proto.specs.Names.{Name};
 ghost use Rattle.zone_map.specs.Puts.{without_all};
 ghost use Rattle.zone_map.specs.Zones.{set_at, owns, AreStored};
@@ -12,12 +13,12 @@ ghost use Rattle.update_in_place.specs.Parts.{keys_lacking};
 
 use crate::parts::put_copies;
 use std::alloc::Global;
-use zone_map::{NewSets, RecordMap};
+use zone_map::RecordMap;
 use zone_proto::{ProtoError, RecordSet, RrKey};
 
 /// Takes the sets of a part of a zone out of it, and puts copies of others in, all or nothing. Refused by `Memory` alone.
 ///
-/// Sets that come where none stand cost what they are, those that go too; of the keys of the zone those up to the last set that stays are passed.
+/// It costs what these sets cost: each is found by its key.
 pub(crate) fn exchange(
     alloc: Global,
     zone: &mut RecordMap,
@@ -32,52 +33,28 @@ pub(crate) fn exchange(
     ensures err { IsOkUnless result ProtoError.Memory }
     ensures same { OnErr result (zone.new ≡ zone.old) }
 {
+    let _sorted = after.len();
     let fresh = keys_lacking(alloc, after, before)?;
     let gone = keys_lacking(alloc, before, after)?;
-    let common = common_sets(alloc, after, before)?;
-    put_both(alloc, zone, after, fresh.as_slice(), common)?;
+    let common = common_entries(alloc, after, before)?;
+    put_fresh(zone, after, fresh.as_slice())?;
+    replace_all(zone, common);
     let _has = zone.len();
     remove_all(zone, gone.as_slice());
     Ok(())
 }
 
-/// Puts sets in place of those that stand, and copies of the sets that a map has under these keys, where none stand: all or nothing.
-fn put_both(
-    alloc: Global,
-    zone: &mut RecordMap,
-    after: &RecordMap,
-    fresh: &[RrKey],
-    common: NewSets,
-) -> Result<(), ProtoError>
-    requires absent { (k : Key) → list_any (key_eq k) fresh.now ≡ true
-        → lookup (key_eq k) zone.old ≡ None }
-    ensures put { OnOk result ((k : Key) → lookup (key_eq k) zone.new
-        ≡ option_or (lookup (key_eq k) common) (option_or (lookup (key_eq k) zone.old)
-        (if list_any (key_eq k) fresh.now then lookup (key_eq k) after.now else None))) }
-    ensures err { IsOkUnless result ProtoError.Memory }
-    ensures same { OnErr result (zone.new ≡ zone.old) }
+/// Puts sets in place of those that stand under their keys. Takes no memory.
+fn replace_all(zone: &mut RecordMap, sets: Vec<(RrKey, RecordSet)>)
+    requires stored { AreStored sets.items }
+    requires ordered { IsStrictlySortedBy key_cmp (keys_of sets.items) }
+    ensures { (k : Key) → lookup (key_eq k) zone.new
+        ≡ (if is_some (lookup (key_eq k) zone.old) then
+        option_or (lookup (key_eq k) sets.items) (lookup (key_eq k) zone.old) else None) }
 {
-    let _had = zone.len();
-    put_fresh(zone, after, fresh)?;
-    let _has = zone.len();
-    match put_common(alloc, zone, common) {
-        Ok(()) => Ok(()),
-        Err(error) => {
-            remove_all(zone, fresh);
-            Err(error)
-        }
+    for (key, set) in sets {
+        let _ = zone.replace(&key, set);
     }
-}
-
-/// Puts sets in place of those that stand: all or nothing.
-fn put_common(alloc: Global, zone: &mut RecordMap, common: NewSets) -> Result<(), ProtoError>
-    ensures put { OnOk result ((k : Key) → lookup (key_eq k) zone.new
-        ≡ option_or (lookup (key_eq k) common) (lookup (key_eq k) zone.old)) }
-    ensures err { IsOkUnless result ProtoError.Memory }
-    ensures same { OnErr result (zone.new ≡ zone.old) }
-{
-    zone.put_all(alloc, common)?;
-    Ok(())
 }
 
 /// Puts copies of the sets that a map has under these keys into a zone where none stand: all or nothing.
@@ -128,18 +105,7 @@ fn keys_lacking(
     Ok(keys)
 }
 
-/// Copies of the sets under whose keys another map has sets.
-fn common_sets(alloc: Global, zone: &RecordMap, other: &RecordMap) -> Result<NewSets, ProtoError>
-    ensures ok { IfOk result (λ sets. (n : Name) (t : ℕ) → set_at sets n t
-        ≡ (if owns other.now n t then set_at zone.now n t else None)) }
-    ensures err { IsOkUnless result ProtoError.Memory }
-{
-    let _count = zone.len();
-    let entries = common_entries(alloc, zone, other)?;
-    NewSets::from_entries(alloc, entries)
-}
-
-/// The same in a list.
+/// Copies of the sets under whose keys another map has sets, in their order.
 fn common_entries(
     alloc: Global,
     zone: &RecordMap,

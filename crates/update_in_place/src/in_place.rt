@@ -86,8 +86,7 @@ pub fn planned_update(
 
 /// Exchanges the sets of a zone that an update is about for those after it. Where it is refused, by `Memory` alone, the zone is as it was.
 ///
-/// A set that comes costs what it takes to put it into the map, and one that goes what it takes to find it. Where sets stand under keys under which
-/// others stood, the keys of the zone are passed up to the last one of these.
+/// Each set that comes or goes is found by its key, so that it costs what these sets cost, whatever else the zone has.
 pub fn carry_out(alloc: Global, zone: &mut RecordMap, changed: &Changed) -> Result<(), ProtoError>
     requires { (names : List Name) × (next : Sets)
         × AreChanged names zone.old next changed.now.before changed.now.after }

@@ -4,6 +4,7 @@ pub mod Stored
 pub mod Entries
 pub mod Renewing
 pub mod Renumbering
+pub mod Replacing
 pub mod Upserting
 pub mod Ahead
 pub mod Putting

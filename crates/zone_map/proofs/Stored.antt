@@ -65,7 +65,7 @@ sorted_without k (e ∷ m) s = by (key_eq k e.0) (sorted_without k m s.1)
 
 -- ---- what a lookup finds where a set was put
 
-put_found : (m : Sets) (k : RrKey) (v : RRset) → lookup (key_eq k) (insert_entry key_cmp m k v) ≡ Some v
+pub put_found : (m : Sets) (k : RrKey) (v : RRset) → lookup (key_eq k) (insert_entry key_cmp m k v) ≡ Some v
 put_found [] k v = ap (λ b. cond b (Some v) None) (key_itself k)
 put_found (e ∷ m) k v = by (key_cmp k e.0) refl (put_found m k v)
   where

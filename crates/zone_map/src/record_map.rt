@@ -16,6 +16,7 @@ mod entries;
 mod full;
 mod puts;
 mod renewal;
+mod replacing;
 mod serials;
 
 use crate::counter::Reads;
