@@ -1,5 +1,5 @@
 -- The steps of a zone lead to the version that was noted last
-use Rattle.std.proofs.Common.{◌≡◌, ℕ, List, [], sym, ap, subst}
+use Rattle.std.proofs.Common.{◌≡◌, ℕ, List, [], ◌∷◌, ◌++◌, drop, sym, ap, subst}
 use Rattle.std.specs.Prelude.{Option, Some, None}
 use Rattle.std.specs.Arc.{arc_value}
 use Rattle.zone_proto.specs.Names.{Name, lower}
@@ -25,7 +25,7 @@ module _ (noted : NotedStepsLead) (o : Name) (z : Zone) (serial : ℕ) (sent : I
       let step : IsNoted (lower o) (sets_in (arc_value before.newest)) (sets_in z) before.steps h.steps =
       subst (λ (n : Name). IsNoted n (sets_in (arc_value before.newest)) (sets_in z) before.steps h.steps) named behind.steps in
       let on = noted o lead.0 (version_of lead.1 (arc_value before.newest)) (version_of serial z) before.steps h.steps lead.2 sent step in
-      at_version on.0 h behind.newest on.1
+      at_version (drop on.0 (lead.0 ++ version_of lead.1 (arc_value before.newest) ∷ [])) h behind.newest on.1
 
 pub histories_lead : NotedStepsLead → HistoriesLead
 histories_lead noted o z serial most None new lead sent named behind = first noted o z serial sent most new behind

@@ -14,7 +14,7 @@ use Rattle.shown_zones.specs.declared.step.ZoneStep.{ZoneStep}
 use Rattle.kept_steps.specs.Giving.{steps_from}
 use Rattle.held_transfers.specs.declared.held_transfer.HeldTransfer.{HeldTransfer}
 use Rattle.held_transfers.specs.Holding.{soa_held}
-use Rattle.step_answers.specs.Answers.{GivesMessages}
+use Rattle.condensed_answers.specs.Answers.{GivesCondensed}
 use Rattle.held_steps.specs.declared.histories.HeldSteps.{HeldSteps}
 use Rattle.held_steps.specs.declared.history.ZoneHistory.{ZoneHistory}
 use Rattle.held_steps.specs.Histories.{history_of, sets_in}
@@ -54,10 +54,11 @@ lacked s h message =
 
 -- ---- their messages
 
--- Messages as they are before they are signed, which leave room for that; none where a record can't be sent.
+-- Messages as they are before they are signed, which leave room for that, of one step in place of two or more (RFC 1995 section 5); none where a record
+-- can't be sent.
 abbrev pub GivesTo : Option RRset → HeldTransfer → List ZoneStep → Option (Vec (Vec ℕ Global) Global) → Type 0
 GivesTo None h ss r = r ≡ None
-GivesTo (Some soa) h ss r = GivesMessages h.transfer.query soa ss datagram_size room r
+GivesTo (Some soa) h ss r = GivesCondensed h.transfer.query (arc_value h.zone).origin soa ss datagram_size room r
 
 abbrev pub GivesLacked : HeldTransfer → List ZoneStep → Option (Vec (Vec ℕ Global) Global) → Type 0
 GivesLacked h ss r = GivesTo (soa_held h) h ss r

@@ -30,8 +30,9 @@ impl HeldAnswer {
         }
     }
 
-    /// Has the steps go out in place of the zone that the one who asks lacks, whose message this is, and says whether they do. All their messages
-    /// are made now, so nothing of the steps is needed any more.
+    /// Has the steps go out in place of the zone that the one who asks lacks, whose message this is, and says whether they do: two and more are
+    /// condensed into one (RFC 1995 section 5), so that nothing is sent that was added and deleted again. All messages are made now, so nothing of the
+    /// steps is needed any more.
     ///
     /// The zone goes out whole (RFC 1995 section 4), and nothing changes, where it was asked for whole, or a message went out already; where the
     /// steps aren't kept that lead from the serial of the message to that of the zone; and where one of their records can't be sent.

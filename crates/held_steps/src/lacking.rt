@@ -1,23 +1,22 @@
 //! The steps that the one lacks who asks for what changed in a zone.
 ghost use Rattle.std.specs.Prelude.{◌≡◌, IfOk, option_copied, option_map};
-ghost use Rattle.step_answers.specs.Answers.{GivesMessages};
 ghost use Rattle.held_steps.specs.Lacking.{lacked, lacked_by, steps_to, GivesLacked, GivesSteps};
 
 use crate::histories::HeldSteps;
 use crate::history::ZoneHistory;
 use crate::serial::serial_in;
+use condensed_answers::condensed_messages;
 use held_transfers::HeldTransfer;
 use kept_steps::KeptSteps;
 use shown_zones::ZoneStep;
 use std::alloc::{AllocError, Global};
-use step_answers::step_messages;
 use transfer_messages::ROOM;
 use zone_database::Zone;
 use zone_proto::RecordType;
 use zone_server::{DATAGRAM_SIZE, client_serial, soa_key};
 
-/// The messages of the steps that the one who asks lacks, of whom this is the message, where the zone is being sent. None where the steps
-/// aren't kept, or a record can't be sent. Fails only for lack of memory.
+/// The messages of the steps that the one who asks lacks, of whom this is the message, where the zone is being sent: of one step in their place
+/// where they are two or more. None where the steps aren't kept, or a record can't be sent. Fails only for lack of memory.
 #[tactic(auto, using(crate::proofs::Lacked::gives_steps, crate::proofs::Lacked::gives_nothing))]
 pub(crate) fn messages_lacked(
     alloc: Global,
@@ -33,7 +32,7 @@ pub(crate) fn messages_lacked(
     }
 }
 
-/// The messages of steps to the version that is being sent.
+/// The messages of steps to the version that is being sent, condensed into one where they are two or more (RFC 1995 section 5).
 #[tactic(auto, using(crate::proofs::Lacked::gives_to, crate::proofs::Lacked::gives_without))]
 fn messages_of(
     alloc: Global,
@@ -46,7 +45,15 @@ fn messages_of(
         return Err(AllocError);
     };
     match held.zone.inner.get(&key) {
-        Some(soa) => step_messages(alloc, &held.transfer.query, soa, steps, DATAGRAM_SIZE, ROOM),
+        Some(soa) => condensed_messages(
+            alloc,
+            &held.transfer.query,
+            &held.zone.origin,
+            soa,
+            steps,
+            DATAGRAM_SIZE,
+            ROOM,
+        ),
         None => Ok(None),
     }
 }

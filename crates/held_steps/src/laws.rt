@@ -6,7 +6,7 @@ use held_transfers::laws::transfers_are_granted;
 use step_answers::laws::noted_steps_lead;
 
 /// The steps that are kept of a zone lead to the version that was noted last, whatever versions were noted, if each can be sent to a secondary.
-/// By `steps_arrive` of `step_answers` a secondary that takes them has that version.
+/// By `condensed_steps_arrive` of `condensed_answers` a secondary that takes them has that version.
 pub fn histories_lead()
     ensures { HistoriesLead }
 {

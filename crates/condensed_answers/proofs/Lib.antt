@@ -1,0 +1,4 @@
+pub mod Giving
+pub mod Holding
+pub mod Versions
+pub mod Arriving

@@ -1,0 +1,2 @@
+pub mod Condensing
+pub mod CondenseLaws
