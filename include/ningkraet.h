@@ -176,6 +176,18 @@ typedef struct nk_plan {
 
 #define NK_PLAN_NONE {0}
 
+/* A signed zone that updates may change. */
+typedef struct nk_signed_zone {
+    const uint8_t *origin;          /* its origin; a final dot may be omitted */
+    size_t origin_length;
+    const uint8_t *keys;            /* its keys, as nk_plan_begin takes them */
+    size_t keys_length;
+    const uint8_t *salt;            /* of NSEC3, as there */
+    size_t salt_length;
+    uint64_t held_from;             /* from when */
+    uint64_t held_until;            /* until when signatures have to hold that stay, in seconds since 1970: others are made anew */
+} nk_signed_zone;
+
 /* Texts of files by their names, or none. The rules for an nk_zones hold for them too. */
 typedef struct nk_files {
     void *kept;
@@ -370,11 +382,11 @@ uint32_t nk_transfer_begin(nk_transfer *transfer, nk_zones *zones, nk_access *ac
  * NK_DONE, NK_NO_MORE, NK_NO_ROOM, NK_NO_MEMORY or NK_NO_TRANSFER. */
 uint32_t nk_transfer_next(nk_transfer *transfer, uint64_t now, uint8_t *buffer, size_t buffer_length, size_t *written);
 
-/* Has what changed go out in place of the whole zone (IXFR, RFC 1995 section 4), to the same client, signed as the zone would be. Call it after
- * NK_TRANSFER, before the first nk_transfer_next, with the octets of the message that began the transfer. NK_NO_STEPS, and the zone goes out
- * whole, if it was asked for whole (AXFR); if the changes from the client's serial to that of the version that is sent aren't kept; or if one of
- * their records can't be sent. NK_NO_STEPS too if a message went out already, or what changed goes out. All messages are made at once: it takes
- * memory for them, and nothing of the nk_steps afterwards.
+/* Has what changed go out in place of the whole zone (IXFR, RFC 1995 section 4), as one step (section 5), to the same client, signed as the
+ * zone would be. Call it after NK_TRANSFER, before the first nk_transfer_next, with the octets of the message that began the transfer.
+ * NK_NO_STEPS, and the zone goes out whole, if it was asked for whole (AXFR); if the changes from the client's serial to that of the version
+ * that is sent aren't kept; or if one of their records can't be sent. NK_NO_STEPS too if a message went out already, or what changed goes out.
+ * All messages are made at once: it takes memory for them, and nothing of the nk_steps afterwards.
  * NK_DONE, NK_NO_STEPS, NK_NO_MEMORY or NK_NO_TRANSFER; after any code but NK_DONE the transfer is as it was. */
 uint32_t nk_transfer_steps(nk_transfer *transfer, nk_steps *steps, const uint8_t *message, size_t message_length);
 
@@ -422,8 +434,8 @@ void nk_updates_free(nk_updates *updates);
  *  - A TSIG that is malformed gets FORMERR; one that is refused NOTAUTH with BADKEY, BADSIG, BADTIME or BADTRUNC (RFC 8945 section 5.3.2). The
  *    response to a message that is rightly signed is signed.
  *  - NOTAUTH if there is no zone of the name. SERVFAIL if it has expired. REFUSED without a TSIG; if a change isn't permitted; and if the zone is
- *    signed: one with NSEC or NSEC3, or with DNSKEY records at its origin, is signed anew from its file. Otherwise the code is that of RFC 2136
- *    section 2.2, with SERVFAIL if there isn't enough memory.
+ *    signed, with NSEC or NSEC3, or with DNSKEY records at its origin: nk_update_prepare takes updates of those. Otherwise the code is that of
+ *    RFC 2136 section 2.2, with SERVFAIL if there isn't enough memory.
  *  - An update that is carried out gets NOERROR. If it changes anything, the zone after it has replaced the one before, its serial is another
  *    (section 3.6), and `changed` is 1. If it changes nothing, or with any other response, no zone has changed, and `changed` is 0; so it is with
  *    any code but NK_DONE.
@@ -520,6 +532,38 @@ uint32_t nk_plan_finish(nk_plan *plan, nk_zones *zones);
 
 /* Frees the plan, if there is one. Afterwards there is none. */
 void nk_plan_free(nk_plan *plan);
+
+/* The same as nk_update_begin, but an update of the signed zone that `zone` names isn't refused: its denials are made anew, and what changed is signed
+ * by keys that the library never sees, as the zone of a plan is.
+ *
+ *     nk_update_prepare(&update, &plan, ..)    the response is in the buffer
+ *     while (nk_plan_next(&plan, ..) == NK_DONE) sign the octets, nk_plan_sign(&plan, ..)           none where there is nothing to sign
+ *     nk_update_sign(&update, &plan, ..)       the frame for the journal is in the room for it      NK_NO_PLAN: there was nothing to sign
+ *     append the frame to the file, and fsync it                                                    only if `frame_written` isn't 0
+ *     nk_update_commit(&update, ..)            the zone after the update has replaced the one before        only then
+ *     send the response
+ *
+ * `keys`, `salt` and `how` are as for nk_plan_begin: the zone after the update has the DNSKEY records of these keys, these denials and the next
+ * serial. Signatures of the zone stay that are made of the same octets and hold from `held_from` until `held_until`; the others are asked for, that
+ * of the SOA always. If the zone after the update can't be signed so, the response is SERVFAIL, and there is nothing to sign. Where a call but the
+ * first gives a code that isn't named here, or the file can't be written, no zone has changed: answer SERVFAIL, or prepare the message again.
+ * This call and nk_update_sign take time by the size of the zone. Where no journals are kept, nk_plan_finish may stand for the last two calls.
+ *
+ * What was begun before in this nk_update and this nk_plan is freed first. After NK_DONE `frame_written` is 0 where there is something to sign.
+ * The codes are those of nk_update_begin, and NK_BAD_NAME, NK_BAD_KEYS, NK_BAD_DENIAL for what `zone` or `how` has, NK_BAD_ZONE for records that can't
+ * be written as octets to sign. After any code but NK_DONE nothing is begun, and both lengths are 0, but after NK_NO_ROOM those that are needed. */
+uint32_t nk_update_prepare(nk_update *update, nk_plan *plan, nk_zones *zones, nk_updates *updates, const nk_message *message,
+                           const nk_signed_zone *zone, const nk_signing *how, uint8_t *buffer, size_t buffer_length, size_t *written,
+                           uint8_t *frame, size_t frame_length, size_t *frame_written);
+
+/* Makes the zone of a plan, with the signatures that were given, the zone after an update, which nk_update_commit puts in place, and writes the frame
+ * for the zone's journal into the room for it: `frame_written` has its length. What was begun in this nk_update, and the plan, are freed. No zone
+ * changes. NK_NO_ZONE or NK_ZONE_CHANGED if the zone that was updated isn't there any more, which its serial tells.
+ * After NK_NO_PLAN everything is as it was: the update of a zone that isn't signed is there to be committed, and its frame is in the room. After any
+ * other code but NK_DONE the plan is as it was, and no update is begun; after NK_NO_ROOM `frame_written` says how many octets are needed, and else
+ * it is 0.
+ * NK_DONE, NK_NO_PLAN, NK_TOO_FEW, NK_TOO_MANY, NK_BAD_SIGNATURE, NK_NO_ZONE, NK_ZONE_CHANGED, NK_BAD_ZONE, NK_NO_ROOM, NK_NO_MEMORY or NK_CLOSED. */
+uint32_t nk_update_sign(nk_update *update, nk_plan *plan, nk_zones *zones, uint8_t *frame, size_t frame_length, size_t *frame_written);
 
 /* Keeps the text of the file with this name, copied, in place of what is kept of it. The first call makes an nk_files that has none.
  * NK_DONE, NK_BAD_FILE_NAME or NK_NO_MEMORY; after any code but NK_DONE what is kept is as it was. */

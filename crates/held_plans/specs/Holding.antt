@@ -1,5 +1,6 @@
 -- A plan that is held: how it begins, and the zone that it ends with
-use Rattle.std.specs.Prelude.{◌≡◌, ◌⊎◌, List, [], map, Option, Some}
+use Rattle.std.specs.Prelude.{◌≡◌, ◌⊎◌, ℕ, List, [], map, Option, Some}
+use Rattle.zone_proto.specs.declared.rdata.signing.DNSKEY.{DNSKEY}
 use Rattle.zone_proto.specs.Names.{Name}
 use Rattle.zone_map.specs.Renewals.{with_signatures}
 use Rattle.zone_map.specs.Zones.{Sets, IsZone}
@@ -28,6 +29,10 @@ pub record IsBegun (apex : Name) (m : Sets) (ks : List PlannedKey) (request : Re
   pub keys : p.keys ≡ map (λ (k : PlannedKey). k.key) ks
   pub asked : p.asked ≡ frames.asked p.records
   pub signatures : p.signatures ≡ []
+
+-- a plan that was made, of the zone of an origin that had a serial: nothing was handed out, and no signature given
+abbrev pub made_plan : Name → ℕ → Sets → List DNSKEY → PlanState
+made_plan apex number m keys = record { origin = apex; serial = number; records = m; keys = keys; asked = frames.asked m; signatures = [] }
 
 -- the planned sets have data that no octets are
 abbrev pub IsUnwritable : Name → Sets → List PlannedKey → Request → Type 0

@@ -3,7 +3,9 @@ ghost use Rattle.std.specs.Prelude.{◌≡◌, ◌⊎◌, ◌++◌, [], ◌∷�
 ghost use Rattle.std.specs.Option.{option_map_or};
 ghost use Rattle.zone_lookup.specs.StartOfAuthority.{first_soa};
 ghost use Rattle.zone_map.specs.Zones.{IsZone, set_at};
-ghost use Rattle.held_plans.specs.Holding.{IsBegun, IsUnplanned, finished_sets, unfinished_fault};
+ghost use Rattle.zone_planning.specs.Faults.{IsUnwritableUnless};
+ghost use Rattle.held_plans.specs.Asking.{AreSignable};
+ghost use Rattle.held_plans.specs.Holding.{IsBegun, IsUnplanned, finished_sets, made_plan, unfinished_fault};
 
 use crate::asking::{AskedSignature, asked};
 use crate::copies::{copy_of, unsigned};
@@ -75,6 +77,33 @@ impl HeldPlan {
             asked,
             signatures: Vec::new(alloc),
         })
+    }
+
+    /// A plan that was made, of the zone of an origin that had this serial. Nothing is handed out yet, and no signature given.
+    ///
+    /// # Errors
+    ///
+    /// `Unwritable` for data that no octets are, and `Memory` where none is found.
+    pub fn of_plan(
+        alloc: Global,
+        origin: LowerName,
+        serial: u32,
+        plan: Plan,
+    ) -> Result<HeldPlan, PlanFault>
+        ensures made { IfOk result (λ held. held
+            ≡ made_plan origin serial plan.records plan.keys.items) }
+        ensures fault { IfErr result (λ e. IsUnwritableUnless e (AreSignable plan.records)) }
+    {
+        match asked(alloc, &plan.records) {
+            Ok(asked) => Ok(HeldPlan {
+                origin,
+                serial,
+                plan,
+                asked,
+                signatures: Vec::new(alloc),
+            }),
+            Err(fault) => Err(fault),
+        }
     }
 
     /// The origin of the zone.

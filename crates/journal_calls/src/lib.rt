@@ -10,5 +10,5 @@ mod replaying;
 
 pub use outcome::JournalOutcome;
 pub use planned_handle::PlannedHandle;
-pub use planning::{begin, commit, free};
+pub use planning::{begin, commit, free, give_alone, give_both, tell_plan};
 pub use replaying::replay;

@@ -149,7 +149,7 @@ fn begin_by(
 
 /// Tells what is planned of a message, whose response has these octets.
 #[tactic(auto, using(crate::proofs::PlanFacts::other_told, crate::proofs::PlanFacts::refused_told, crate::proofs::PlanFacts::same_told, crate::proofs::PlanFacts::updated_told))]
-fn tell_plan(
+pub fn tell_plan(
     alloc: Global,
     plan: &mut PlannedHandle,
     planned: PlannedUpdate,
@@ -184,7 +184,7 @@ fn tell_plan(
 }
 
 /// Gives a response with which nothing else is to be done.
-fn give_alone(
+pub fn give_alone(
     octets: &[u8],
     buffer: &mut [u8],
     written: &mut usize,
@@ -241,7 +241,7 @@ fn hold(
 
 /// Writes a response into one room, and what a journal gets into the other, unless one of them is longer than its room; and the lengths of both.
 /// Whether they are there.
-fn give_both(
+pub fn give_both(
     octets: &[u8],
     entry: &[u8],
     buffer: &mut [u8],

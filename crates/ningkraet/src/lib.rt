@@ -1,6 +1,6 @@
 //! The zones of a server for programs that aren't written in Rattle: what `include/ningkraet.h` declares, each by one call of
-//! `zone_database`, `arrival_calls`, `transfer_calls`, `update_calls`, `journal_calls`, `notify_calls`, `expiry_calls`, `plan_calls`, `file_calls` or
-//! `text_calls`. C passes no allocator; to C a slice is a pointer and a length, and a `&mut` a pointer.
+//! `zone_database`, `arrival_calls`, `transfer_calls`, `update_calls`, `journal_calls`, `notify_calls`, `expiry_calls`, `plan_calls`, `signed_calls`,
+//! `file_calls` or `text_calls`. C passes no allocator; to C a slice is a pointer and a length, and a `&mut` a pointer.
 #![tactic(auto)]
 
 ghost use Rattle.std.specs.Prelude.{◌≡◌, ◌≤◌, [], None, Some, length, take};
@@ -23,6 +23,7 @@ ghost use Rattle.notify_calls.specs.NotifyCalls.{ReadsResponse, WritesNotify};
 ghost use Rattle.expiry_calls.specs.Expiry.{Expires};
 
 pub mod plans;
+pub mod signed;
 pub mod zone_files;
 
 use arrival_calls::{ClientMessage, ServerSettings, SummaryNumbers, answer_client};

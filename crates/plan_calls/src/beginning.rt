@@ -51,8 +51,8 @@ pub(crate) fn begun(
     }
 }
 
-/// The origin that octets name (RFC 1035 section 5.1); a final dot may be left out.
-fn origin_of(alloc: Global, origin: &[u8]) -> Result<Name, PlanOutcome>
+/// The origin that octets name (RFC 1035 section 5.1); a final dot may be left out. Refused by `BadName` and `NoMemory`.
+pub fn origin_of(alloc: Global, origin: &[u8]) -> Result<Name, PlanOutcome>
     ensures name { IfOk result (λ n. origin_of origin.now ≡ Ok n) }
     ensures refusal { IfErr result
         (λ o. (o ≡ NoMemory) ⊎ ((o ≡ BadName) × IsErr (origin_of origin.now))) }
@@ -64,8 +64,8 @@ fn origin_of(alloc: Global, origin: &[u8]) -> Result<Name, PlanOutcome>
     }
 }
 
-/// The keys that octets are.
-fn keys_of(alloc: Global, octets: &[u8]) -> Result<Vec<DNSKEY>, PlanOutcome>
+/// The keys that octets are: the data of their records, each behind two octets that count its octets. Refused by `BadKeys` and `NoMemory`.
+pub fn keys_of(alloc: Global, octets: &[u8]) -> Result<Vec<DNSKEY>, PlanOutcome>
     ensures keys { IfOk result (λ keys. AreKeys octets.now keys.items) }
     ensures refusal { IfErr result
         (λ o. (o ≡ NoMemory) ⊎ ((o ≡ BadKeys) × AreNoKeys octets.now)) }

@@ -42,7 +42,7 @@ pub(crate) fn install(
 }
 
 /// Whether the zone that was planned is there with the serial that it had. Refused by `NoZone`, `ZoneChanged` and `NoMemory`.
-fn check_serial(held: &HeldPlan, database: &ZoneDatabase) -> Result<(), PlanOutcome>
+pub fn check_serial(held: &HeldPlan, database: &ZoneDatabase) -> Result<(), PlanOutcome>
     ensures stands { OnOk result (StillStands held.now (zones_in database.now)) }
     ensures refusal { IfErr result (IsChanged held.now (zones_in database.now)) }
 {
@@ -67,8 +67,8 @@ fn zone_serial(zone: &Zone) -> Result<u32, ProtoError>
     Ok(serial_under(zone.inner.record_map(), &key))
 }
 
-/// The zone of a plan with its signatures.
-fn finished(alloc: Global, held: &HeldPlan) -> Result<Zone, PlanOutcome>
+/// The zone of a plan with its signatures. Refused by `Unfinished` for those that the plan doesn't want, and by `NoMemory`.
+pub fn finished(alloc: Global, held: &HeldPlan) -> Result<Zone, PlanOutcome>
     ensures zone { IfOk result (λ zone. zone ≡ finished_zone held.now) }
     ensures faultless { OnOk result (unfinished_fault held.now ≡ None) }
     ensures refusal { IfErr result (IsUnfinishedBy held.now) }

@@ -9,6 +9,8 @@ mod handle;
 mod outcome;
 mod signing;
 
+pub use beginning::{keys_of, origin_of};
+pub use finishing::{check_serial, finished};
 pub use handle::PlanHandle;
 pub use outcome::PlanOutcome;
-pub use signing::Signing;
+pub use signing::{Signing, kind_of, request_of};

@@ -30,7 +30,7 @@ pub struct Signing {
 
 /// How the zone denies what it doesn't hold. Refused by `BadDenial` for a number that is none of those above, more than 65,535
 /// iterations, or a salt of more than 255 octets; and by `NoMemory`.
-pub(crate) fn kind_of(alloc: Global, how: &Signing, salt: &[u8]) -> Result<NxProofKind, PlanOutcome>
+pub fn kind_of(alloc: Global, how: &Signing, salt: &[u8]) -> Result<NxProofKind, PlanOutcome>
     ensures ok { IfOk result (λ kind. kind_of how.now salt.now ≡ Some kind) }
     ensures err { IfErr result
         (λ o. (o ≡ NoMemory) ⊎ ((o ≡ BadDenial) × (kind_of how.now salt.now ≡ None))) }
@@ -53,7 +53,7 @@ pub(crate) fn kind_of(alloc: Global, how: &Signing, salt: &[u8]) -> Result<NxPro
 }
 
 /// What is asked of a plan.
-pub(crate) fn request_of(how: &Signing, nx_proof_kind: NxProofKind) -> Request
+pub fn request_of(how: &Signing, nx_proof_kind: NxProofKind) -> Request
     ensures { result ≡ request_of how.now nx_proof_kind }
 {
     Request {

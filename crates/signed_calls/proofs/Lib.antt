@@ -1,0 +1,4 @@
+pub mod GivenFacts
+pub mod PrepareFacts
+pub mod SignFacts
+pub mod Held

@@ -1,0 +1,5 @@
+pub mod Outcomes
+pub mod Given
+pub mod Preparing
+pub mod Signing
+pub mod Laws
