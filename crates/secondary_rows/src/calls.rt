@@ -2,6 +2,7 @@
 
 use crate::keys::keys_answer;
 use crate::notifies::{notify_answer, read_notify_answer, read_response_answer, response_answer};
+use crate::rules::rules_answer;
 use crate::secondaries::{newer_answer, secondary_answer};
 use alloc_failures::scarce_answer;
 use compared_rows::{Caller, unless_refused};
@@ -34,6 +35,7 @@ fn call_answer(alloc: Global, call: &str) -> Result<String, TextError> {
     let words = Words::new(text.as_bytes());
     match verb {
         "keys" => keys_answer(alloc, text),
+        "rules" => rules_answer(alloc, text),
         "notify" => notify_answer(alloc, words),
         "taken" => response_answer(alloc, NotifyOutcome::Taken, words),
         "unknown" => response_answer(alloc, NotifyOutcome::NotAuthoritative, words),

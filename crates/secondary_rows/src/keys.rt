@@ -15,7 +15,7 @@ pub fn keys_answer(alloc: Global, words: &str) -> Result<String, TextError> {
 }
 
 /// A text with its line breaks.
-fn with_line_breaks(alloc: Global, octets: &[u8]) -> Result<Vec<u8>, AllocError> {
+pub fn with_line_breaks(alloc: Global, octets: &[u8]) -> Result<Vec<u8>, AllocError> {
     let mut text = Vec::new(alloc);
     let mut is_escape = false;
     for octet in octets {

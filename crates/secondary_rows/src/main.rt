@@ -1,4 +1,4 @@
-//! Reads files of keys, writes and reads NOTIFY messages, and leads secondary zones through events, as rows of text describe; reports which
+//! Reads files of keys and of rules, writes and reads NOTIFY messages, and leads secondary zones through events, as rows of text describe; reports which
 //! rows have another answer. Each line of standard input names a file of rows in the current directory, `data`.
 //!
 //! A row is `CALL => ANSWER`; a line without `=>` is a comment, and spaces within answers are passed over. Octets are written in hex, none as
@@ -6,6 +6,7 @@
 //!
 //! - `keys TEXT` reads a file of keys, whose line breaks are written `\n` and `\r`: for each its name, its algorithm and its secret, or
 //!   line, column and fault;
+//! - `rules TEXT` reads rules of who may change what: for each the places of the words for its origin and its key, and the rule, or line, column and fault;
 //! - `notify ID NAME` writes a NOTIFY, and `taken MESSAGE`, `unknown MESSAGE` and `refused MESSAGE` write the response to one;
 //! - `read-notify MESSAGE` reads a NOTIFY: its identifier, its origin and its serial, or `none`; `read-response MESSAGE` reads the response to
 //!   one: its identifier and its code, or `none`;
@@ -20,6 +21,7 @@
 mod calls;
 mod keys;
 mod notifies;
+mod rules;
 mod secondaries;
 
 use calls::SecondaryCaller;

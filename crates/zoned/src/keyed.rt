@@ -20,8 +20,8 @@ use zone_server::{Mode, TransferPolicy};
 
 /// The clock of the machine.
 #[derive(Drop)]
-struct HostClock<'r> {
-    rt: &'r HostRuntime,
+pub struct HostClock<'r> {
+    pub rt: &'r HostRuntime,
 }
 
 /// One that can't be read tells 1970, when no signature holds.
@@ -56,12 +56,20 @@ pub fn serve_by_keys<R: Read, W: Write, E: Write>(
 ) -> u8
     ensures { result ≤ 2 }
 {
-    let Some(mut access) = read_access(rt, alloc, file, fault) else {
+    let mut text = Vec::new(alloc);
+    if read_file(rt, file, &mut text, fault).is_none() {
+        return 2;
+    }
+    let Some(access) = granted_access(
+        alloc,
+        file,
+        text.as_slice(),
+        zones.as_slice(),
+        policies,
+        fault,
+    ) else {
         return 2;
     };
-    if grant(alloc, &mut access, zones.as_slice(), policies).is_err() {
-        return tell(fault, b"out of memory\n");
-    }
     let Ok(database) = database_of(alloc, zones) else {
         return tell(fault, b"out of memory\n");
     };
@@ -71,26 +79,39 @@ pub fn serve_by_keys<R: Read, W: Write, E: Write>(
     )
 }
 
-/// The keys of a file, which nobody may have a zone by yet. None if it can't be read, or isn't one of keys; why is told.
-fn read_access<E: Write>(
-    rt: &HostRuntime,
+/// The keys of the text of a file, and who may have which zone by them. None if it isn't one of keys; why is told.
+pub fn granted_access<E: Write>(
     alloc: Global,
     file: &str,
+    text: &[u8],
+    zones: &[Zone],
+    policies: &[TransferPolicy],
     fault: &mut E,
 ) -> Option<TransferAccess> {
-    let mut text = Vec::new(alloc);
-    read_file(rt, file, &mut text, fault)?;
-    match TransferAccess::read(alloc, text.as_slice()) {
-        Ok(access) => Some(access),
-        Err(KeyFileError::Memory) => {
+    let mut access = match TransferAccess::read(alloc, text) {
+        Ok(access) => access,
+        Err(error) => return refuse_keys(file, error, fault),
+    };
+    match grant(alloc, &mut access, zones, policies) {
+        Ok(()) => Some(access),
+        Err(_) => {
             tell(fault, b"out of memory\n");
             None
         }
-        Err(KeyFileError::Fault(found)) => {
+    }
+}
+
+/// Tells why a file of keys isn't taken.
+pub fn refuse_keys<T, E: Write>(file: &str, error: KeyFileError, fault: &mut E) -> Option<T> {
+    match error {
+        KeyFileError::Memory => {
+            tell(fault, b"out of memory\n");
+        }
+        KeyFileError::Fault(found) => {
             let _ = write!(fault, "{file}:{found}\n");
-            None
         }
     }
+    None
 }
 
 /// Lets those have zones who may: of each, by its policy, anybody, who has one of the keys, or nobody. Fails only for lack of memory.
@@ -174,7 +195,7 @@ fn grant_to_keys(
 }
 
 /// Zones side by side. Fails only for lack of memory.
-fn database_of(alloc: Global, zones: Vec<Zone>) -> Result<ZoneDatabase, AllocError>
+pub fn database_of(alloc: Global, zones: Vec<Zone>) -> Result<ZoneDatabase, AllocError>
     ensures { IfOk result (λ database. zones_in database ≡ all_with zones.items []) }
 {
     let mut database = ZoneDatabase::new(alloc);

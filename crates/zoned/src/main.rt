@@ -1,4 +1,4 @@
-//! `zoned [--check] [--limits] [--keys FILE] [ZONE..] [--transfers ZONE..] [--signed ZONE..]`: answers the frames of messages on standard input
+//! `zoned [--check] [--limits] [--keys FILE [--update-rules FILE --journals FOLDER]] [ZONE..] [--transfers ZONE..] [--signed ZONE..]`: answers the frames of messages on standard input
 //! from zone files, up to the end of the input, on standard output. It opens no socket: another program connects one to its streams.
 //!
 //! A ZONE is `FILE`, whose origin is the owner of its first SOA, or `ORIGIN=FILE`; two of one origin are refused. With
@@ -6,13 +6,21 @@
 //! asks for them (AXFR, RFC 5936), those behind `--signed` to who signs with a key of the file of `--keys` (TSIG, RFC 8945), and the others to
 //! nobody. With keys, what is answered to a signed message is signed. With `--check` the program ends once the zones are loaded, and writes their
 //! origins.
+//!
+//! With `--update-rules` updates (RFC 2136) are taken of those who sign with a key and whom a rule of that file permits it. Each that changes a zone is
+//! in its journal, a file of the folder of `--journals`, before it is served, and served before it is answered. What the journal has is replayed over the
+//! zone when the program starts.
 #![tactic(auto)]
 
 ghost use Rattle.std.specs.Prelude.{◌≤◌};
 
+mod journals;
 mod keyed;
+mod replaying;
 mod reporting;
+mod rules;
 mod serving;
+mod updating;
 mod wanted;
 mod zones;
 
@@ -23,12 +31,13 @@ use std::alloc::Global;
 use std::io;
 use std::io::Write;
 use std::process::ExitCode;
+use updating::serve_with_updates;
 use wanted::{Wanted, wanted_by};
 use zone_database::Zone;
 use zones::{load_zones, policies};
 
 const USAGE: &[u8] =
-    b"usage: zoned [--check] [--limits] [--keys FILE] [ZONE..] [--transfers ZONE..] [--signed ZONE..], a ZONE is FILE or ORIGIN=FILE\n";
+    b"usage: zoned [--check] [--limits] [--keys FILE [--update-rules FILE --journals FOLDER]] [ZONE..] [--transfers ZONE..] [--signed ZONE..], a ZONE is FILE or ORIGIN=FILE\n";
 
 fn main(rt: HostRuntime) -> ExitCode {
     let mut fault = rt.stderr();
@@ -63,17 +72,31 @@ fn run(rt: &HostRuntime, alloc: Global, wanted: &Wanted<'_>) -> u8
         };
     }
     match wanted.keys {
-        Some(file) => serve_by_keys(
-            rt,
-            alloc,
-            file,
-            zones,
-            policies.as_slice(),
-            wanted.mode,
-            &mut input,
-            &mut output,
-            &mut fault,
-        ),
+        Some(file) => match wanted.updates {
+            Some(updates) => serve_with_updates(
+                rt,
+                alloc,
+                file,
+                updates,
+                zones,
+                policies.as_slice(),
+                wanted.mode,
+                &mut input,
+                &mut output,
+                &mut fault,
+            ),
+            None => serve_by_keys(
+                rt,
+                alloc,
+                file,
+                zones,
+                policies.as_slice(),
+                wanted.mode,
+                &mut input,
+                &mut output,
+                &mut fault,
+            ),
+        },
         None => serve(
             alloc,
             zones.as_slice(),

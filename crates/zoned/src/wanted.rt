@@ -10,6 +10,11 @@ const TRANSFERS: &str = "--transfers";
 /// The word behind which those stand that are sent to who has a key.
 const SIGNED: &str = "--signed";
 
+/// The word behind which the file of the rules stands by which updates are taken, and that before the folder of their journals.
+const RULES: &str = "--update-rules";
+
+const JOURNALS: &str = "--journals";
+
 /// A file that is served.
 #[derive(Drop)]
 pub struct WantedZone<'w> {
@@ -21,6 +26,15 @@ pub struct WantedZone<'w> {
     pub policy: TransferPolicy,
 }
 
+/// What updates are taken by.
+#[derive(Clone, Copy, Drop)]
+pub struct WantedUpdates<'w> {
+    /// The name of the file of rules.
+    pub rules: &'w str,
+    /// The name of the folder of the zones' journals.
+    pub journals: &'w str,
+}
+
 /// What is wanted of the program.
 #[derive(Drop)]
 pub struct Wanted<'w> {
@@ -30,12 +44,14 @@ pub struct Wanted<'w> {
     pub mode: Mode,
     /// The name of the file of keys, if requests may be signed.
     pub keys: Option<&'w str>,
+    /// What updates are taken by, if they are.
+    pub updates: Option<WantedUpdates<'w>>,
     /// The zones, one at least.
     pub zones: Vec<WantedZone<'w>>,
 }
 
-/// What words ask for: `--check` or nothing, `--limits` or nothing, `--keys` and a file or nothing, and zones, before some of which `--transfers`
-/// or, with keys, `--signed` may stand. None if they aren't that.
+/// What words ask for: `--check` or nothing, `--limits` or nothing, `--keys` and a file or nothing, with keys `--update-rules` and a file and
+/// `--journals` and a folder or nothing, and zones, before some of which `--transfers` or, with keys, `--signed` may stand. None if they aren't that.
 pub fn wanted_by(alloc: Global, words: &[String]) -> Result<Option<Wanted<'_>>, ProtoError> {
     let (is_check, words) = flag(words, "--check");
     let (is_limits, words) = flag(words, "--limits");
@@ -45,11 +61,13 @@ pub fn wanted_by(alloc: Global, words: &[String]) -> Result<Option<Wanted<'_>>, 
         Mode::Stream
     };
     let (keys, words) = keys_file(words);
+    let (updates, words) = wanted_updates(words, keys.is_some());
     let zones = wanted_zones(alloc, words, keys.is_some())?;
     Ok(zones.map(|zones| Wanted {
         is_check,
         mode,
         keys,
+        updates,
         zones,
     }))
 }
@@ -58,6 +76,21 @@ pub fn wanted_by(alloc: Global, words: &[String]) -> Result<Option<Wanted<'_>>, 
 fn keys_file(words: &[String]) -> (Option<&str>, &[String]) {
     match words {
         [first, file, others @ ..] if first.as_str() == "--keys" => (Some(file.as_str()), others),
+        _ => (None, words),
+    }
+}
+
+/// What updates are taken by, if there are keys and words begin so, and those behind it.
+fn wanted_updates(words: &[String], has_keys: bool) -> (Option<WantedUpdates<'_>>, &[String]) {
+    match words {
+        [first, rules, second, journals, others @ ..]
+            if has_keys && first.as_str() == RULES && second.as_str() == JOURNALS => {
+            let updates = WantedUpdates {
+                rules: rules.as_str(),
+                journals: journals.as_str(),
+            };
+            (Some(updates), others)
+        }
         _ => (None, words),
     }
 }

@@ -1,0 +1,6 @@
+mod Lines
+mod Steps
+mod Texts
+mod Types
+mod WordNames
+mod WordRuns
