@@ -71,6 +71,7 @@ WORDS = {
     "&mut PlanHandle": "&mut {}",
     "&mut FilesHandle": "&mut {}",
     "&Signing": "&how",
+    "&SignedZone<'_>": "&signed",
     "&[u8]": "&text",
     "&mut [u8]": "&mut {}",
     "&mut usize": "&mut {}",
@@ -96,6 +97,7 @@ fn main(rt: HostRuntime) -> std::process::ExitCode {{
     let (mut serial, mut number, mut id, mut code) = (0u32, 0u32, 0u32, 0u32);
     let settings = ServerSettings {{ nsid: &text, secrets: &text, cookies_required: 0 }};
     let message = ClientMessage {{ octets: &text, address: &text, moment: 0, limit: 512, transport: 0 }};
+    let signed = signed_calls::SignedZone {{ origin: &text, keys: &text, salt: &text, held_from: 0, held_until: 0 }};
     let rule = RuleTexts {{ origin: &text, key: &text, name: &text, types: &types, scope: 0, denies: 0 }};
     let mut summary = SummaryNumbers {{ code: 0, kind: 0, truncated: 0, cookie: 0, origin_labels: 0 }};
     let mut worst = 0u32;

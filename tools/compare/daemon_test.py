@@ -32,8 +32,8 @@ SANITIZERS = {"plain": (["-O2"], 0), "sanitized": (["-O1", "-fsanitize=address,u
 # (what was freed isn't kept for long, so that memory that grows is seen)
 os.environ["ASAN_OPTIONS"] = "quarantine_size_mb=4"
 ZONE = "$ORIGIN {origin}\n$TTL 60\n@ SOA ns host {serial} 2 3 4 5\n@ NS ns\nns A 192.0.2.53\nwww A 192.0.2.{last}\n* TXT any\nsub NS ns.sub\nns.sub A 192.0.2.54\n"
-# Seconds that an answer may take, and a start with many zones on a machine with much other work.
-PATIENCE, STARTS = 5, 180
+# Seconds that an answer may take, and a start and an end with many zones on a machine with much other work.
+PATIENCE, STARTS, ENDS = 5, 600, 120
 # How many descriptors a server has that has few; and two numbers of prctl(2) and capabilities(7).
 DESCRIPTORS, PR_CAPBSET_DROP, CAP_SYS_RESOURCE = 60, 24, 24
 FAULTS = {
@@ -99,7 +99,7 @@ class Server:
         if self.process.poll() is None:
             self.process.send_signal(signal.SIGTERM)
         try:
-            status = self.process.wait(20)
+            status = self.process.wait(ENDS)
         except subprocess.TimeoutExpired:
             self.process.kill()
             status = f"{self.process.wait()}, by force"
@@ -300,7 +300,7 @@ def changes_are_sent(room):
         need(since(1) == ["SOA 1"], f"to a client that has the zone goes {since(1)}")
         read(2, 2)
         read(3, 3)
-        need(since(1) == ["SOA 3", *step((1, 80), (2, 2)), *step((2, 2), (3, 3)), "SOA 3"], f"since the first version: {since(1)}")
+        need(since(1) == ["SOA 3", *step((1, 80), (3, 3)), "SOA 3"], f"since the first version: {since(1)}")
         need(since(2) == ["SOA 3", *step((2, 2), (3, 3)), "SOA 3"], f"since the second: {since(2)}")
         need(sorted(since(0)) == whole(3, 3), f"since one that wasn't there: {since(0)}")
         read(3, 4)
@@ -355,7 +355,7 @@ def files_are_included(room):
 
 
 def clients_have_limits(room):
-    with Server(room, "tcp-connections 40", "tcp-client-connections 30", "tcp-idle 2", workers=1) as server:
+    with Server(room, "tcp-connections 40", "tcp-client-connections 30", "tcp-idle 8", workers=1) as server:
         streams = [server.tcp() for _ in range(35)]
         served = 0
         for it in streams:
@@ -364,7 +364,7 @@ def clients_have_limits(room):
         need(served == 30, f"{served} of 30 connections were served")
         time.sleep(0.2)
         need(server.counter("the client has too many") == 5, server.control("status")[1])
-        for _ in range(7):
+        for _ in range(19):
             with contextlib.suppress(OSError):
                 streams[0].send(bytes(2))   # (a message of no octets doesn't count)
             time.sleep(0.5)

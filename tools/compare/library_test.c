@@ -6,61 +6,14 @@
  * Each refusal is made, clients come with cookies, and a zone is sent, and updated; then each allocation of each call fails in turn: the call says
  * so and changes nothing, or does without, and it succeeds when it is made again. Then so many datagrams, which are queries with octets turned, are
  * answered. With NOT_WRAPPED, as beside a sanitizer, which has a malloc of its own, no allocation fails. */
-#include <ningkraet.h>
-#include <stdio.h>
-#include <stdlib.h>
-#include <string.h>
+#include "library_test.h"
 
-static long left = -1;
-#ifndef NOT_WRAPPED
-void *__real_malloc(size_t size);
-void *__real_realloc(void *block, size_t size);
-static int fails(void) { return left > 0 && --left == 0; }
-void *__wrap_malloc(size_t size) { return fails() ? NULL : __real_malloc(size); }
-void *__wrap_realloc(void *block, size_t size) { return fails() ? NULL : __real_realloc(block, size); }
-#endif
-
-#define ORIGIN "a-name-of-more-than-thirty-three-octets.example"
-static const char *const text =
-    "$TTL 60\n@ SOA ns host 7 2 3 4 5\n@ NS ns\n@ MX 5 www\nns A 192.0.2.1\nwww TXT \"a\" \"b\"\nwww A 192.0.2.4\n"
-    "cut NS ns.cut\nns.cut A 192.0.2.5\nalias CNAME www\n*.wild 30 A 192.0.2.2\n*.wild A 192.0.2.3\n";
 static const char *const bad_text = "$TTL 60\n@ SOA ns host 7 2 3 4 5\n@ NS ns\nns A 192.0.2\n";
 static const char *const told_of_it = ORIGIN ":4:6: ";
-static uint8_t room[65535], before[65535];
-
-/* A query for a type at a label below the origin, with an OPT record that asks for DNSSEC, and its length. */
-static size_t query_of(uint8_t *query, const char *label, int type) {
-    static const uint8_t head[] = {1, 2, 1, 0, 0, 1, 0, 0, 0, 0, 0, 1}, opt[] = {0, 0, 41, 4, 208, 0, 0, 128, 0, 0, 0};
-    static const char rest[] = "\47" "a-name-of-more-than-thirty-three-octets" "\7" "example";
-    size_t length = strlen(label);
-    memcpy(query, head, 12);
-    query[12] = length;
-    memcpy(query + 13, label, length);
-    memcpy(query + 13 + length, rest, sizeof rest);
-    length += 13 + sizeof rest;
-    query[length] = type >> 8, query[length + 1] = type, query[length + 2] = 0, query[length + 3] = 1;
-    memcpy(query + length + 4, opt, sizeof opt);
-    return length + 4 + sizeof opt;
-}
-
-static uint32_t load(nk_zones *zones, int is_new, const char *origin, const char *file, size_t *written) {
-    uint32_t (*const call)(nk_zones *, const uint8_t *, size_t, const uint8_t *, size_t, uint8_t *, size_t, size_t *) = is_new ? nk_zones_add : nk_zones_load;
-    return call(zones, (const uint8_t *)origin, strlen(origin), (const uint8_t *)file, strlen(file), room, sizeof room, written);
-}
-
-static uint32_t drop(nk_zones *zones, const char *origin) { return nk_zones_drop(zones, (const uint8_t *)origin, strlen(origin)); }
 
 static uint32_t expire(nk_zones *zones, const char *origin) { return nk_zones_expire(zones, (const uint8_t *)origin, strlen(origin)); }
 
 static uint32_t prepare(nk_zones *zones, const char *origin) { return nk_zones_prepare(zones, (const uint8_t *)origin, strlen(origin)); }
-
-static uint32_t serial(nk_zones *zones, const char *origin, uint32_t *number) { return nk_zones_serial(zones, (const uint8_t *)origin, strlen(origin), number); }
-
-static uint32_t answer(nk_zones *zones, const char *label, int type, uint32_t transport, size_t space, size_t *written) {
-    uint8_t query[128];
-    size_t length = query_of(query, label, type);
-    return nk_zones_answer(zones, 0, query, length, 1232, transport, room, space, written);
-}
 
 /* The answer to a client that asks for NSID and has a cookie of so many octets, if there are any; the cookie of the response is put in its
  * place where it has one. */
@@ -79,10 +32,6 @@ static uint32_t answer_client(nk_zones *zones, uint32_t transport, int is_requir
         if (!memcmp(room + i, (uint8_t[]){0, 10, 0, 24}, 4) && !memcmp(room + i + 4, cookie, 8)) memcpy(cookie, room + i + 4, *cookie_length = 24);
     return code;
 }
-
-static int is_untouched(void) { return !memcmp(room, before, sizeof room); }
-
-#define IS(fact) do { if (!(fact)) return printf("line %d: not so: %s\n", __LINE__, #fact), 1; } while (0)
 
 /* Each refusal, with what it leaves. */
 static int refusals(void) {
@@ -215,23 +164,7 @@ static int notified(void) {
     return 0;
 }
 
-/* A key of ECDSA with P-256, of which the library sees the data of its DNSKEY record alone, behind their length. */
-static const uint8_t key[70] = {0, 68, 1, 1, 3, 13, 7};
 static const nk_signing by_nsec = {.inception = 1000, .expiration = 2000, .key_ttl = 60}, by_nsec3 = {.inception = 1000, .expiration = 2000, .denial = NK_NSEC3_OPT_OUT, .iterations = 1};
-
-static uint32_t begin(nk_plan *plan, nk_zones *zones, const char *origin, size_t keys, const nk_signing *how, size_t salt) {
-    return nk_plan_begin(plan, zones, (const uint8_t *)origin, strlen(origin), key, keys, how, before, salt);
-}
-
-/* Hands out all that is left of a plan, and gives so many signatures less; and how many were asked for. */
-static long sign_all(nk_plan *plan, long less) {
-    size_t written;
-    uint32_t number;
-    long asked = 0;
-    while (nk_plan_next(plan, &number, room, sizeof room, &written) == NK_DONE && !number && written > 40) asked++;
-    for (long n = less; n < asked; n++) if (nk_plan_sign(plan, key, 64) != NK_DONE) return 0;
-    return asked;
-}
 
 /* The same for a zone that is signed. */
 static int plan_refusals(void) {
@@ -266,10 +199,6 @@ static int plan_refusals(void) {
     return 0;
 }
 
-/* A file of keys, and the TSIG of a request for the zone under this key, at 1000 seconds, with a fudge of 300 (RFC 8945). */
-static const char *const keys = "key \"key.example\" {\n\talgorithm hmac-sha256;\n\tsecret \"c2VjcmV0IG9mIGEga2V5IHRoYXQgaXMgc2hhcmVkLi4=\";\n};\n";
-static const uint8_t tsig[] = "\3" "key" "\7" "example" "\0\0\372\0\377\0\0\0\0\0\75" "\13" "hmac-sha256" "\0\0\0\0\0\3\350\1\54\0\40"
-    "\277\65\10\155\40\173\105\101\373\107\130\257\76\244\204\201\7\122\220\115\73\336\274\374\23\127\126\127\360\256\26\132" "\1\2\0\0\0\0";
 static nk_access access = NK_ACCESS_NONE;
 
 static uint32_t read_keys(const char *file, size_t *written) { return nk_zones_keys(&access, (const uint8_t *)file, strlen(file), room, sizeof room, written); }
@@ -321,17 +250,6 @@ static int transfers(void) {
     return 0;
 }
 
-/* An update of the zone, one more address of www, and the TSIG of it under the same key at the same moment. */
-static const uint8_t update[] = "\1\2\50\0\0\1\0\0\0\1\0\0" "\47" "a-name-of-more-than-thirty-three-octets" "\7" "example" "\0\0\6\0\1" "\3" "www" "\300\14\0\1\0\1\0\0\0\74\0\4\300\0\2\11";
-static const uint8_t update_mac[] = "\356\255\343\272\370\210\225\266\230\123\213\275\25\300\206\12\312\154\362\311\152\0\364\243\243\245\211\323\57\12\35\324";
-static nk_updates rules = NK_UPDATES_NONE;
-static uint8_t frame[4096], journal[4096];
-
-static uint32_t rule(const char *origin, const char *name, uint32_t scope, uint16_t type, uint32_t denies) {
-    nk_rule one = {(const uint8_t *)origin, strlen(origin), (const uint8_t *)name, strlen(name), (const uint8_t *)origin, strlen(origin), &type, 1, scope, denies};
-    return nk_updates_rule(&rules, &one);
-}
-
 /* The octets of it, in a room for them. */
 static nk_message update_at(uint8_t *octets, int is_signed, uint64_t now) {
     size_t length = sizeof update - 1, size = is_signed ? sizeof tsig - 1 : 0;
@@ -352,12 +270,6 @@ static uint32_t begin_update(nk_update *begun, nk_zones *zones, uint64_t now, si
     nk_message message = update_at(octets, 1, now);
     return nk_update_begin(begun, zones, &rules, &message, room, space, written, frame, frames, framed);
 }
-
-static uint32_t replay(nk_zones *zones, const char *origin, size_t length, size_t *whole) {
-    return nk_zones_replay(zones, (const uint8_t *)origin, strlen(origin), journal, length, whole);
-}
-
-static uint32_t read_rules(const char *file, size_t *written) { return nk_updates_keys(&rules, (const uint8_t *)file, strlen(file), room, sizeof room, written); }
 
 /* Updates: who may make them, what they change, and what each allocation that fails leaves. */
 static int updates(void) {

@@ -29,6 +29,8 @@ from sources import TOP
 PORT, CONNECTIONS = 5390, 1000
 # What a memory checker reports ends with this status.
 VALGRIND = ["valgrind", "-q", "--error-exitcode=9", "--leak-check=full"]
+# The zone that is updated signed, and a moment at which its signatures hold.
+SIGNED, WITHIN = "a-name-of-more-than-thirty-three-octets.example.", 1500
 
 
 class Way(NamedTuple):
@@ -165,10 +167,24 @@ def compiled(way, folder, source, room, *more):
     return path
 
 
+def failing(way):
+    """What has allocations fail; a sanitizer has an allocator of its own, whose allocations don't."""
+    return ["-DNOT_WRAPPED"] if way.flags else ["-Wl,--wrap=malloc,--wrap=realloc"]
+
+
 def try_calls(way, folder, room):
-    """Refusals, and allocations that fail; a sanitizer has an allocator of its own, whose allocations don't."""
-    more = ["-DNOT_WRAPPED"] if way.flags else ["-Wl,--wrap=malloc,--wrap=realloc"]
-    subprocess.run([*way.before, compiled(way, folder, "tools/compare/library_test.c", room, *more), str(way.datagrams)], check=True)
+    """Refusals, and allocations that fail."""
+    subprocess.run([*way.before, compiled(way, folder, "tools/compare/library_test.c", room, *failing(way)), str(way.datagrams)], check=True)
+
+
+def try_signed(way, folder, room):
+    """Updates of signed zones: the chain of each is closed afterwards, and all that has to be is signed."""
+    subprocess.run([*way.before, compiled(way, folder, "tools/compare/library_signed.c", room, *failing(way)), room], check=True)
+    check = peers.program("zone_check")
+    for name in ("nsec", "nsec3", "opt-out"):
+        words = [check, "--at", str(WITHIN), "--strict", f"{room}/{name}.zone", SIGNED]
+        said = subprocess.run(words, stdout=subprocess.PIPE, text=True, check=True).stdout
+        assert "a closed chain of NSEC" in said, said
 
 
 def try_threads(way, folder, room):
@@ -230,7 +246,7 @@ def main(words):
             if way.before and not shutil.which(way.before[0]):
                 print("library_test: left out: valgrind isn't there")
                 continue
-            for test in (try_calls, try_threads, try_datagrams):
+            for test in (try_calls, try_signed, try_threads, try_datagrams):
                 tried(f"{test.__name__}, {way.name}", test, way, folder, room)
         try_server(folder, room)
     return 0

@@ -5,7 +5,7 @@ records; the HMAC of Python judges the TSIG of each response of the library. The
 missing, it is left out, and a line says so. Not part of the gate: it needs cc, and opens sockets on loopback. It ends what it starts.
 
 What they do otherwise: BIND looks at who may change what before the prerequisites, and leaves the serial where changes undo each other (sections
-3.3 and 3.6 of RFC 2136 allow that). Knot DNS keeps the TTL that a set has (section 3.4.2.2 has the record replaced, with its TTL); its rules of
+3.3 and 3.6 of RFC 2136 allow that); it drops DS records where there is no NS (section 3.4.2.2 has each record added). Knot DNS keeps the TTL that a set has (section 3.4.2.2 has the record replaced, with its TTL); its rules of
 who may change what are of whole messages, so that it gets the updates which the library didn't refuse, under the key that may change all.
 
 The servers are Debian's packages bind9 and knot, and the tools are those of bind9-dnsutils and knot-dnsutils. FOLDER is what `./build ningkraet`
@@ -21,7 +21,7 @@ import sys
 import tempfile
 import threading
 import time
-from ctypes import CDLL, POINTER, Structure, byref, c_char_p, c_size_t, c_uint16, c_uint32, c_uint64, c_void_p, create_string_buffer
+from ctypes import CDLL, POINTER, Structure, byref, c_char_p, c_size_t, c_uint16, c_uint32, c_uint64, c_void_p, create_string_buffer, string_at
 
 sys.dont_write_bytecode = True
 sys.path.append(os.path.dirname(os.path.dirname(os.path.realpath(__file__))))
@@ -32,7 +32,7 @@ from tsig_judge import name_at, parted
 
 ORIGIN = "zone.example."
 ZONE = "$TTL 300\n@ SOA ns host 7 3600 600 86400 60\n@ NS ns\nns A 192.0.2.1\na A 192.0.2.2\na A 192.0.2.3\na.b TXT one\nkept A 192.0.2.4\nalias CNAME a\n"
-A, NS, CNAME, SOA, MX, TXT, AXFR, ANY = 1, 2, 5, 6, 15, 16, 252, 255
+A, NS, CNAME, SOA, MX, TXT, DS, AXFR, ANY = 1, 2, 5, 6, 15, 16, 43, 252, 255
 IN, NONE, ANY_CLASS = 1, 254, 255
 NOERROR, REFUSED = 0, 5
 # The codes of prerequisites (RFC 2136 section 2.2). BIND looks at its policy before them, and the library behind them (section 3.3).
@@ -46,22 +46,22 @@ RULES = [
     (KEY, f"b.{ORIGIN}", True, (), False),
 ]
 WORDS = {A: "A", TXT: "TXT", ANY: "ANY"}
-POLICY = " ".join(
-    f"{'deny' if denies else 'grant'} {key} {'subdomain' if below else 'name'} {name} {' '.join(WORDS[it] for it in types)};" for key, name, below, types, denies in RULES
-)
 BIND = 'zone "{origin}" {{ type primary; file "{path}"; check-integrity no; check-mx ignore; allow-transfer {{ any; }}; update-policy {{ {policy} }}; }};\n'
 BIND_KEY = 'key "{key}" {{ algorithm hmac-sha256; secret "{secret}"; }};\n'
 KNOT = (
     "key:\n - id: {key}\n   algorithm: hmac-sha256\n   secret: {secret}\n"
     "acl:\n - id: all\n   key: {key}\n   action: update\n - id: anybody\n   address: 127.0.0.1\n   action: transfer\n"
-    'zone:\n - domain: "{origin}"\n   file: "{path}"\n   zonefile-sync: -1\n   zonefile-load: whole\n   semantic-checks: off\n   acl: [all, anybody]\n'
+    "zone:\n"
 )
+KNOT_ZONE = ' - domain: "{origin}"\n   file: "{path}"\n   zonefile-sync: -1\n   zonefile-load: whole\n   semantic-checks: off\n   acl: [all, anybody]\n'
 SERVERS = {"named": "BIND", "knotd": "Knot DNS"}
 NAMES = [ORIGIN, *(f"{it}.{ORIGIN}" for it in ("a", "b", "a.a", "kept.b", "c.b", "alias", "kept", "new", "x.y.new"))]
 # What the tools are told: a record that is added, and one that needs a record that isn't there.
 TOLD = "server 127.0.0.1 {port}\nzone {origin}\nkey hmac-sha256:{key} {secret}\n{change}\nsend\nquit\n"
 CHANGES = {"update add {name} 60 A 192.0.2.77": True, "prereq yxdomain nobody.{origin}\nupdate add other.{origin} 60 A 192.0.2.78": False}
-SECONDS = 5
+SECONDS = 20
+# Octets that the library has room for, for a message or a zone file; and how often each type is among changes.
+ROOM, WEIGHTS = 1 << 20, {A: 6, TXT: 4, MX: 2, NS: 2, CNAME: 2, DS: 1, SOA: 1}
 
 
 class Message(Structure):
@@ -86,18 +86,27 @@ class Held:
     def __init__(self, folder):
         self.library = CDLL(f"{folder}/libningkraet.so")
         self.zones, self.updates, self.access, self.transfer = c_void_p(), c_void_p(), c_void_p(), c_void_p()
-        self.room, self.written, self.changed = create_string_buffer(65535), c_size_t(), c_uint32()
-        origin, keys, whole = pair(ORIGIN.encode()), pair(KEYS.encode()), (self.room, c_size_t(65535), byref(self.written))
+        self.room, self.written, self.changed = create_string_buffer(ROOM), c_size_t(), c_uint32()
+        keys, whole = pair(KEYS.encode()), (self.room, c_size_t(ROOM), byref(self.written))
         self.whole = whole
         self.done("nk_zones_new", self.zones)
-        self.done("nk_zones_load", self.zones, *origin, *pair(ZONE.encode()), *whole)
         self.done("nk_updates_keys", self.updates, *keys, *whole)
         self.done("nk_zones_keys", self.access, *keys, *whole)
+        self.take(ORIGIN, ZONE, RULES)
+
+    def take(self, zone, text, rules):
+        """Takes a zone of this text, and the rules of who may change it."""
+        origin = pair(zone.encode())
+        self.done("nk_zones_load", self.zones, *origin, *pair(text.encode()), *self.whole)
         self.done("nk_zones_allow", self.access, *origin, *pair(b""))
-        for key, name, below, types, denies in RULES:
-            texts = [field for it in (ORIGIN, key, name) for field in (it.encode(), len(it))]
+        for key, name, below, types, denies in rules:
+            texts = [field for it in (zone, key, name) for field in (it.encode(), len(it))]
             rule = Rule(*texts, (c_uint16 * (len(types) + 1))(*types), len(types), int(below), int(denies))
             self.done("nk_updates_rule", self.updates, byref(rule))
+
+    def shown(self, records):
+        """Those records of the zone that are compared."""
+        return records
 
     def call(self, name, handle, *words):
         return self.library[name](byref(handle), *words)
@@ -112,54 +121,77 @@ class Held:
     def updated(self, octets):
         """The response to an update, and whether a zone changed."""
         self.done("nk_zones_update", self.zones, byref(self.updates), self.message(octets, 0), *self.whole, byref(self.changed))
-        return self.room.raw[: self.written.value], bool(self.changed.value)
+        return string_at(self.room, self.written.value), bool(self.changed.value)
 
     def text(self):
         """The zone as a zone file."""
         self.done("nk_zones_write", self.zones, *pair(ORIGIN.encode()), *self.whole)
-        return self.room.raw[: self.written.value]
+        return string_at(self.room, self.written.value).decode("ascii")
 
-    def answers(self, octets):
-        """The messages of the answer over TCP."""
+    def answers(self, octets, steps=None):
+        """The messages of the answer over TCP; what changed, if steps have it, where they are given."""
         begun = self.call("nk_transfer_begin", self.transfer, byref(self.zones), byref(self.access), self.message(octets, 1), *self.whole)
+        if steps:
+            self.done("nk_transfer_steps", self.transfer, byref(steps), *pair(octets))
         while self.call("nk_transfer_next", self.transfer, c_uint64(int(time.time())), *self.whole) == NOERROR:
-            yield self.room.raw[: self.written.value]
+            yield string_at(self.room, self.written.value)
         if not begun:
             sys.exit("updates: the library doesn't send its zone")
 
 
-def configuration(server, path):
-    """What the configuration of a server says of its keys, and of its zone in this file."""
+def policy(rules):
+    """What BIND's configuration says of who may change what in a zone."""
+    return " ".join(
+        f"{'deny' if denies else 'grant'} {key} {'subdomain' if below else 'name'} {name} {' '.join(WORDS[it] for it in types)};" for key, name, below, types, denies in rules
+    )
+
+
+def configuration(server, files):
+    """What the configuration of a server says of its keys, and of zones in these files. Who has the key OTHER may change all in any of them."""
     secret = base64.b64encode(SECRET).decode()
     if server == "knotd":
-        return KNOT.format(key=OTHER, secret=secret, origin=ORIGIN, path=path)
-    return "".join(BIND_KEY.format(key=key, secret=secret) for key in (KEY, OTHER)) + BIND.format(origin=ORIGIN, path=path, policy=POLICY)
+        return KNOT.format(key=OTHER, secret=secret) + "".join(KNOT_ZONE.format(origin=origin, path=path) for origin, path in files.items())
+    keys = "".join(BIND_KEY.format(key=key, secret=secret) for key in (KEY, OTHER))
+    rules = {origin: RULES if origin == ORIGIN else all_by_other(origin) for origin in files}
+    return keys + "".join(BIND.format(origin=origin, path=path, policy=policy(rules[origin])) for origin, path in files.items())
+
+
+def all_by_other(origin):
+    """The rule by which who has the key OTHER may change all in a zone."""
+    return [(OTHER, origin, True, (ANY,), False)]
 
 
 class Peer:
-    """The same zone in another server."""
+    """The same zones in another server, by their origins."""
 
-    def __init__(self, server, folder):
+    def __init__(self, server, folder, zones=None):
         self.server, self.folder, self.times = server, folder, 0
-        self.begin(ZONE.encode())
+        self.begin(zones or {ORIGIN: ZONE})
 
-    def begin(self, text):
-        """Begins with a zone of this text."""
+    def begin(self, zones):
+        """Begins with zones of these texts."""
         self.port, self.times = peers.free_port(), self.times + 1
         folder = f"{self.folder}{self.times}"
         os.mkdir(folder)
-        with open(f"{folder}/zone", "wb") as it:
-            it.write(text)
-        self.process = peers.begun(peers.configured(self.server, f"{folder}/server", self.port, configuration(self.server, f"{folder}/zone")))
+        for origin, text in zones.items():
+            with open(f"{folder}/{origin}zone", "w", encoding="ascii") as it:
+                it.write(text)
+        files = {origin: f"{folder}/{origin}zone" for origin in zones}
+        self.process = peers.begun(peers.configured(self.server, f"{folder}/server", self.port, configuration(self.server, files)))
         with peers.connected(self.port) as stream:
-            peers.await_zones(stream, [ORIGIN])
+            peers.await_zones(stream, zones)
+            if peers.asked(stream, query(next(iter(zones)), SOA))[3] & 15:
+                sys.exit(f"updates: {SERVERS[self.server]} doesn't read the zone that is in {folder}")
 
     def begin_anew(self, text):
         self.end()
-        self.begin(text)
+        self.begin({ORIGIN: text})
 
     def end(self):
         peers.end(self.process)
+
+    def shown(self, records):
+        return records
 
     def updated(self, octets):
         with socket.socket(socket.AF_INET, socket.SOCK_DGRAM) as it:
@@ -185,23 +217,26 @@ def plain_data(message, kind, data, at):
     return b"".join(parts) + message[place : at + len(data)] if names else data
 
 
-def records_in(messages):
-    """The records of answers, each once."""
-    records = set()
+def each_record(messages):
+    """The records of answers, in their order."""
     for message in messages:
         for start, kind, _, ttl, data, section in parted(message):
             if section == 0:
                 name, behind = name_at(message, start)
-                records.add((name, kind, ttl, plain_data(message, kind, data, behind + 10)))
-    return records
+                yield name, kind, ttl, plain_data(message, kind, data, behind + 10)
+
+
+def records_in(messages):
+    """The records of answers, each once."""
+    return set(each_record(messages))
 
 
 def query(name, kind):
     return struct.pack("!HHHHHH", 0x4E4B, 0, 1, 0, 0, 0) + wire(name) + struct.pack("!HH", kind, IN)
 
 
-def zone_of(server):
-    return records_in(server.answers(query(ORIGIN, AXFR)))
+def zone_of(server, origin=ORIGIN):
+    return server.shown(records_in(server.answers(query(origin, AXFR))))
 
 
 def serial_of(records):
@@ -215,6 +250,12 @@ def without_start(records):
 def without_times(records):
     """Records without their TTLs, and without the SOA."""
     return {(name, kind, data) for name, kind, _, data in without_start(records)}
+
+
+def without_orphans(records):
+    """Records without DS where there is no NS, and without the SOA."""
+    cuts = {it[0] for it in records if it[1] == NS}
+    return {it for it in without_start(records) if it[1] != DS or it[0] in cuts}
 
 
 # ---- updates
@@ -237,12 +278,13 @@ def random_data(kind):
         # (BIND refuses an NS of the zone itself whose name in the zone has no address)
         NS: wire(f"ns{number}.other.test."),
         CNAME: wire(random.choice(NAMES)),
+        DS: struct.pack("!HBB", number, 13, 2) + bytes(32),
         SOA: start_data(random.choice([1, 7, 8, 9, 20, 3_000_000_000])),
     }[kind]
 
 
 def random_kind():
-    return random.choices([A, TXT, MX, NS, CNAME, SOA], [6, 4, 2, 2, 2, 1])[0]
+    return random.choices(list(WEIGHTS), list(WEIGHTS.values()))[0]
 
 
 def random_need():
@@ -256,6 +298,8 @@ def random_need():
 def random_change():
     """A change (section 2.5)."""
     name, kind, way = random.choice(NAMES), random_kind(), random.random()
+    # (BIND passes over an NS of a wildcard in silence, and reads no zone file with a DS at the origin)
+    kind = A if kind == NS and name.startswith("*") or kind == DS and name == ORIGIN else kind
     if way < 0.55:
         return entry(name, kind, IN, random.choice([60, 300]), random_data(kind))
     if way < 0.75:
@@ -289,9 +333,11 @@ def compared(held, peer, octets, key, code):
         return f"{code}, and {SERVERS[peer.server]} {theirs}", False
     if mine == others:
         return None, False
-    undone = without_start(mine) == without_start(others) and serial_of(mine) == serial_of(others) + 1
-    timed = peer.server == "knotd" and without_times(mine) == without_times(others) and serial_of(mine) - serial_of(others) in (0, 1)
-    if not undone and not timed:
+    steps = serial_of(mine) - serial_of(others)
+    undone = without_start(mine) == without_start(others) and steps == 1
+    timed = peer.server == "knotd" and without_times(mine) == without_times(others) and steps in (0, 1)
+    dropped = peer.server == "named" and without_orphans(mine) == without_orphans(others) and without_start(mine) > without_start(others) and steps in (0, 1)
+    if not undone and not timed and not dropped:
         return f"only here {mine - others}, only in {SERVERS[peer.server]} {others - mine}", False
     peer.begin_anew(held.text())
     return None, True

@@ -2,10 +2,11 @@
 """Tries the C library in the form in which its users get it.
 
   tools/gate/c_library.py program FOLDER    the program of the README, compiled with the commands of the documents, answers
-  tools/gate/c_library.py calls FOLDER      each call reports each refusal, and each failing allocation (library_test.c)
+  tools/gate/c_library.py calls FOLDER      each call reports each refusal, and each failing allocation (library_test.c, library_signed.c)
   tools/gate/c_library.py front.c FOLDER    a query for the zone of the README's tour is answered over UDP and TCP
   tools/gate/c_library.py signed.c FOLDER   the zone of the tour, signed by OpenSSL with new keys, is answered with signatures, which delv
-                                            finds valid if it is installed; says so where OpenSSL's header isn't
+                                            finds valid if it is installed, also after an update by nsupdate; says so
+                                            where OpenSSL's header isn't
   tools/gate/c_library.py front.py PROGRAM  the same by zoned
   tools/gate/c_library.py server FOLDER     the same by ningkraetd, which says so where a configuration is wrong, and ends as it is told to
 
@@ -37,7 +38,9 @@ ADDRESS = "192.0.2.80"
 # The lines of the documents that compile a program over the library; and the one that is a server.
 LINE, SERVER = re.compile(r"^cc .*?(\S+\.c) \$\(pkg-config --cflags --libs ningkraet\) -o \w+", re.M), "examples/serving/front.c"
 # The program that signs, the folder of the header that it needs, and what delv says of a response that is validated.
-SIGNED, OPENSSL, VALIDATED = "examples/serving/signed.c", "openssl", "; fully validated"
+SIGNED, OPENSSL, VALIDATED = "examples/serving/signed.c", "openssl", "; fully validated\n"
+# What it says where it is proved that a name isn't there; and the name of the key that may change the zone.
+DENIED, KEY = "; negative response, fully validated", "admin.example.com"
 # The sources of ningkraetd.
 DAEMON = sorted(it for it in os.listdir(f"{TOP}/server") if it.endswith(".c") and it != "ningkraetctl.c")
 # Datagrams with octets turned, as many as take a second, and the seconds that an answer may take.
@@ -109,10 +112,10 @@ def program(folder, room):
 
 
 def calls(folder, room):
-    words = ["cc", "-O2", f"{TOP}/tools/compare/library_test.c", *library.flags(folder), "-Wl,--wrap=malloc,--wrap=realloc", "-o", f"{room}/calls"]
-    ran(words)
-    said = ran([f"{room}/calls", str(DATAGRAMS)])
-    need(re.search(r"^[1-9]\d* allocations refused", said, re.M), f"no allocation was refused: {said}")
+    for name, word, told in (("library_test", str(DATAGRAMS), r"^[1-9]\d* allocations refused"), ("library_signed", room, r"[1-9]\d* times no memory")):
+        ran(["cc", "-O2", f"{TOP}/tools/compare/{name}.c", *library.flags(folder), "-Wl,--wrap=malloc,--wrap=realloc", "-o", f"{room}/{name}"])
+        said = ran([f"{room}/{name}", word])
+        need(re.search(told, said, re.M), f"no allocation was refused: {said}")
 
 
 def front_c(folder, room):
@@ -131,14 +134,23 @@ def signed(folder, room):
         return
     port = peers.free_port()
     ran(["cc", "-O2", "-Wall", "-Wextra", "-Werror", f"{TOP}/{SIGNED}", *library.flags(folder), "-lcrypto", "-o", f"{room}/signed"])
+    with open(f"{room}/tsig", "w", encoding="utf-8") as it:
+        it.write(f'key "{KEY}" {{ algorithm hmac-sha256; secret "c2VjcmV0IG9mIGEga2V5IHRoYXQgaXMgc2hhcmVkLi4="; }};\n')
     with open(f"{room}/anchors", "w", encoding="utf-8") as anchors:
-        server = subprocess.Popen([f"{room}/signed", str(port), ORIGIN, f"{TOP}/{ZONE}"], stdout=anchors)
+        server = subprocess.Popen([f"{room}/signed", str(port), ORIGIN, f"{TOP}/{ZONE}", f"{room}/tsig", KEY], stdout=anchors)
     try:
         lines = list(frames.message_lines(answer_of(port, frames.query([ORIGIN, "DNSKEY", "edns=1232", "do"]))))
         need([sum(f" IN {it} \\#" in line for line in lines) for it in ("DNSKEY", "RRSIG")] == [2, 2], f"of its keys it says {lines}")
+        asked = ["delv", "@127.0.0.1", "-p", str(port), "-a", f"{room}/anchors", f"+root={ORIGIN}"]
         if shutil.which("delv"):
-            said = ran(["delv", "@127.0.0.1", "-p", str(port), "-a", f"{room}/anchors", f"+root={ORIGIN}", f"www.{ORIGIN}", "A"])
-            need(said.startswith(VALIDATED), f"delv says {said}")
+            for name, told in (("www", VALIDATED), ("new", DENIED)):
+                said = ran([*asked, f"{name}.{ORIGIN}", "A"])
+                need(told in said, f"delv says of {name} {said}")
+        if shutil.which("delv") and shutil.which("nsupdate"):
+            ran(["nsupdate", "-k", f"{room}/tsig"], input=f"server 127.0.0.1 {port}\nzone {ORIGIN}\nupdate add new.{ORIGIN} 60 A {ADDRESS}\nupdate delete www.{ORIGIN}\nsend\n")
+            for name, told in (("new", VALIDATED), ("www", DENIED)):
+                said = ran([*asked, f"{name}.{ORIGIN}", "A"])
+                need(told in said, f"after the update delv says of {name} {said}")
     finally:
         peers.end(server)
 

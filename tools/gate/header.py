@@ -18,6 +18,7 @@ EXPORTS = "\n".join(library.texts("ningkraet").values())
 HEADER, CODES = "include/ningkraet.h", "crates/zone_database/src/outcome.rt"
 # The files of the codes that calls on plans, transfers, updates and their journals have besides, and those of how a zone is to be signed, and of rules.
 PLAN_CODES, TRANSFER_CODES, SIGNING = "crates/plan_calls/src/outcome.rt", "crates/transfer_calls/src/outcome.rt", "crates/plan_calls/src/signing.rt"
+SIGNED_ZONE = "crates/signed_calls/src/signed_zone.rt"
 UPDATE_CODES, RULES, JOURNAL_CODES = "crates/update_calls/src/outcome.rt", "crates/update_calls/src/rules.rt", "crates/journal_calls/src/outcome.rt"
 # Those of calls about files, and why a file can't be read.
 FILE_CODES, LACKS = "crates/file_calls/src/outcome.rt", {"Absent": "FILE", "Folder": "FOLDER", "Stream": "STREAM", "Denied": "PERMISSION", "Unreadable": "OTHER"}
@@ -37,6 +38,7 @@ KINDS = {
     "&mut PlanHandle": ["nk_plan *"],
     "&mut FilesHandle": ["nk_files *"],
     "&Signing": ["const nk_signing *"],
+    "&SignedZone<'_>": ["const nk_signed_zone *"],
     "&[u8]": ["const uint8_t *", "size_t"],
     "&mut [u8]": ["uint8_t *", "size_t"],
     "&mut usize": ["size_t *"],
@@ -81,7 +83,7 @@ def told():
 
 
 # The structs that calls take: the name in C, the file and the name in Rattle.
-STRUCTS = [("nk_settings", CLIENT, "ServerSettings"), ("nk_message", CLIENT, "ClientMessage"), ("nk_summary", SUMMARY, "SummaryNumbers"), ("nk_signing", SIGNING, "Signing"), ("nk_rule", RULES, "RuleTexts")]
+STRUCTS = [("nk_settings", CLIENT, "ServerSettings"), ("nk_message", CLIENT, "ClientMessage"), ("nk_summary", SUMMARY, "SummaryNumbers"), ("nk_signing", SIGNING, "Signing"), ("nk_rule", RULES, "RuleTexts"), ("nk_signed_zone", SIGNED_ZONE, "SignedZone")]
 
 
 def fields(text, in_c, file, name):
