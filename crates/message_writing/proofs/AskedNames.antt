@@ -39,7 +39,7 @@ known_begun blank start rest n twelve is valid short =
     }
 
 -- it stays there
-known_on : (old new written : List ℕ) (p : ℕ) (n : Name) → new ≡ old ++ written → IsKnown old p n → IsKnown new p n
+pub known_on : (old new written : List ℕ) (p : ℕ) (n : Name) → new ≡ old ++ written → IsKnown old p n → IsKnown new p n
 known_on old new written p n is h =
     let long : 12 ≤ length old = omega (arith, h.low, known_inside old p n h) in
     let g : Continues old written new = record {

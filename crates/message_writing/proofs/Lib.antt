@@ -32,3 +32,4 @@ pub mod WriterSteps
 pub mod RecordParts
 pub mod Fronts
 pub mod MoreGroups
+pub mod KeptBack

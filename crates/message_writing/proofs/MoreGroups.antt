@@ -1,5 +1,5 @@
 -- A response that is written group by group: begun, gone on with, and ended
-use Rattle.std.proofs.Common.{◌≡◌, ℕ, ◌+◌, ◌-◌, ◌*◌, ◌<◌, ◌≤◌, Bool, true, false, List, [], ◌∷◌, ◌++◌, length, take, drop, Option, Some, None, refl, sym, ap, subst, ◌∙◌, append_assoc, arith}
+use Rattle.std.proofs.Common.{◌≡◌, ℕ, ◌+◌, ◌-◌, ◌<◌, ◌≤◌, Bool, true, false, List, [], ◌∷◌, ◌++◌, length, take, drop, Option, Some, None, refl, sym, ap, subst, ◌∙◌, append_assoc, arith}
 use Rattle.std.proofs.lemmas.List.{append-nil, length-append, take_all, take_more}
 use Rattle.std.specs.Borrow.{Bor}
 use Rattle.std.specs.declared.alloc.Global.{Global}
@@ -212,12 +212,11 @@ counts_within Additionals done n least most c more h = record {
   additionals = omega (arith, more, h.additionals);
 }
 
-pub goes_on : (s : Section) (g : Group) (before after : ResponseWriter) (old new : List ℕ) (done : Bool) (n : ℕ) → after.head ≡ before.head
-    → after.setting ≡ before.setting → after.counts ≡ counts_with s done n before.counts
-    → IsPutWithin before.setting.room old new (records_of g) done → IsCount done n g → length new ≤ before.setting.room
-    → IsAskedAt new before.setting.asked → CanGoOn before old → CanGoOn after new
-goes_on s g before after old new done n head setting counts put count within asked h =
-    let more = put_grows done before.setting.room n g old new put count in
+-- with records that have an octet each at least
+pub grows_on : (s : Section) (before after : ResponseWriter) (old new : List ℕ) (done : Bool) (n : ℕ) → after.head ≡ before.head
+    → after.setting ≡ before.setting → after.counts ≡ counts_with s done n before.counts → length old + n ≤ length new
+    → length new ≤ before.setting.room → IsAskedAt new before.setting.asked → CanGoOn before old → CanGoOn after new
+grows_on s before after old new done n head setting counts more within asked h =
     let counted : AreWithin (length new) after.counts = subst (AreWithin (length new)) (sym counts)
     (counts_within s done n (length old) (length new) before.counts more
     (record { answers = h.answers; authorities = h.authorities; additionals = h.additionals })) in
@@ -230,6 +229,13 @@ goes_on s g before after old new done n head setting counts put count within ask
       authorities = counted.authorities;
       additionals = counted.additionals;
     }
+
+pub goes_on : (s : Section) (g : Group) (before after : ResponseWriter) (old new : List ℕ) (done : Bool) (n : ℕ) → after.head ≡ before.head
+    → after.setting ≡ before.setting → after.counts ≡ counts_with s done n before.counts
+    → IsPutWithin before.setting.room old new (records_of g) done → IsCount done n g → length new ≤ before.setting.room
+    → IsAskedAt new before.setting.asked → CanGoOn before old → CanGoOn after new
+goes_on s g before after old new done n head setting counts put count within asked h =
+    grows_on s before after old new done n head setting counts (put_grows done before.setting.room n g old new put count) within asked h
 
 -- ---- groups one behind the other
 

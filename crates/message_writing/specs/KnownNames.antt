@@ -27,6 +27,12 @@ cut_text zero pointer n = ending pointer
 cut_text (suc k) pointer [] = ending pointer
 cut_text (suc k) pointer (l ∷ n) = length l ∷ (l ++ cut_text k pointer n)
 
+-- the labels alone
+abbrev pub labels_text : ℕ → Name → List ℕ
+labels_text zero n = []
+labels_text (suc k) [] = []
+labels_text (suc k) (l ∷ n) = length l ∷ (l ++ labels_text k n)
+
 -- what follows these labels is known there, or is nothing
 abbrev pub IsRest : List ℕ → Option ℕ → Name → Type 0
 IsRest octets None left = left ≡ []

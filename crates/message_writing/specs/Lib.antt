@@ -10,3 +10,4 @@ pub mod Fronts
 pub mod Checks
 pub mod PlainText
 pub mod Writers
+pub mod KeptText

@@ -27,6 +27,12 @@ const WHOLE: Cut = Cut {
     fingerprint: Fingerprint::OF_ROOT,
 };
 
+/// The cuts of data in which no name may have a pointer.
+pub(crate) const NO_CUTS: DataCuts = DataCuts {
+    first: WHOLE,
+    second: WHOLE,
+};
+
 /// Where the names of data are cut that may have pointers: those in the types of RFC 1035, and in no other (RFC 3597 section 4).
 pub(crate) fn data_cuts(out: &[u8], hints: &Hints, rdata: &RData) -> DataCuts
     ensures { AreCuts out.now result.first result.second rdata.now }
@@ -44,10 +50,7 @@ pub(crate) fn data_cuts(out: &[u8], hints: &Hints, rdata: &RData) -> DataCuts
             first: cut_of(out, hints, soa.mname.labels()),
             second: cut_of(out, hints, soa.rname.labels()),
         },
-        _ => DataCuts {
-            first: WHOLE,
-            second: WHOLE,
-        },
+        _ => NO_CUTS,
     }
 }
 

@@ -12,6 +12,7 @@ mod fingerprints;
 mod front_writer;
 mod group_writer;
 mod hints;
+mod kept_records;
 mod known_names;
 mod message_parts;
 mod name_writer;
@@ -27,6 +28,7 @@ mod writable;
 
 pub use error::WriteError;
 pub use front_writer::write_front;
+pub use kept_records::{KeptRecords, keep_records};
 pub use numbers::{push_long, push_short};
 pub use plain_data::push_plain_data;
 pub use response::{Group, Response, ResponseHead, Section};

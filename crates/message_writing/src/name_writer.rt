@@ -1,6 +1,6 @@
 //! Names written into a message, with compression (RFC 1035 section 4.1.4).
-ghost use Rattle.std.specs.Prelude.{◌≡◌, ◌≤◌, ◌++◌, ◌∷◌, [], drop, length, OnOk};
-ghost use Rattle.message_writing.specs.KnownNames.{IsCut, IsRest, IsShort, cut_text, ending};
+ghost use Rattle.std.specs.Prelude.{◌≡◌, ◌≤◌, ◌++◌, ◌∷◌, [], drop, length, IsTrue, OnOk};
+ghost use Rattle.message_writing.specs.KnownNames.{IsCut, IsRest, IsShort, cut_text, ending, labels_text};
 ghost use Rattle.zone_proto.specs.Names.{IsName, wire_form, wire_length};
 
 use crate::fingerprints::Fingerprint;
@@ -99,20 +99,52 @@ fn without_first(left: &mut Labels<'_>, fingerprint: Fingerprint) -> Fingerprint
 }
 
 /// Appends a name as it is cut.
+#[tactic(auto, using(crate::proofs::CutTexts::cut_put))]
 pub(crate) fn push_cut(out: &mut Vec<u8>, cut: Cut, name: Labels<'_>) -> Result<(), AllocError>
     requires name { IsName name }
     requires pointer { IsShort cut.pointer }
     ensures { OnOk result (out.new.items
         ≡ out.old.items ++ cut_text cut.labels cut.pointer name.entry) }
 {
+    push_labels(out, cut.labels, name)?;
+    push_ending(out, cut.pointer)
+}
+
+/// Appends so many labels of a name, each behind its length.
+pub(crate) fn push_labels(
+    out: &mut Vec<u8>,
+    count: usize,
+    name: Labels<'_>,
+) -> Result<(), AllocError>
+    requires { IsName name }
+    ensures { OnOk result (out.new.items ≡ out.old.items ++ labels_text count name.entry) }
+{
     let mut left = name;
-    for _ in 0..cut.labels {
+    for _ in 0..count {
         match left.next() {
             Some(label) => push_label(out, label)?,
             None => {}
         }
     }
-    push_ending(out, cut.pointer)
+    Ok(())
+}
+
+/// Whether labels are the same, the case of letters included.
+pub(crate) fn same_labels(labels: Labels<'_>, others: Labels<'_>) -> bool
+    ensures { IsTrue result → labels.entry ≡ others.entry }
+{
+    let mut left = others;
+    for label in labels {
+        match left.next() {
+            Some(other) => {
+                if label != other {
+                    return false;
+                }
+            }
+            None => return false,
+        }
+    }
+    left.next().is_none()
 }
 
 /// Appends a pointer, or the end of a name.

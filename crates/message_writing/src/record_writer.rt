@@ -111,7 +111,7 @@ fn names_cut(out: &[u8], hints: &mut Hints, rdata: &RData) -> Result<DataCuts, A
 }
 
 /// Appends what stands between the owner of a record and RDLENGTH.
-fn push_fields(out: &mut Vec<u8>, ttl: u32, r: &Record) -> Result<(), AllocError>
+pub(crate) fn push_fields(out: &mut Vec<u8>, ttl: u32, r: &Record) -> Result<(), AllocError>
     ensures { OnOk result (out.new.items ≡ out.old.items ++ (short_text (type_of r.now.rdata)
         ++ (short_text r.now.dns_class.0 ++ long_text ttl))) }
 {

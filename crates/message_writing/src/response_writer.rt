@@ -5,10 +5,13 @@ ghost use Rattle.message_writing.specs.Writers.{counts_with};
 
 use crate::error::WriteError;
 use crate::group_writer::{Setting, count_if, write_group};
-use crate::hints::Hints;
+use crate::hints::{AFTER_HEADER, Hints};
+use crate::kept_records::KeptRecords;
+use crate::known_names::is_known;
 use crate::message_parts::{
     Counts, GREATEST_CODE, OPT_OCTETS, opt_count, push_opt, push_question, put_header,
 };
+use crate::name_writer::wire_length;
 use crate::response::{Group, ResponseHead, Section, without_groups};
 use message_reading::Question;
 use std::alloc::{AllocError, Global};
@@ -25,11 +28,16 @@ pub struct ResponseWriter<'q> {
 }
 
 impl<'q> ResponseWriter<'q> {
-    ghost use Rattle.std.specs.Prelude.{◌≢◌, ◌≤◌, ℕ, [], ◌∷◌, IfErr, IfOk, OnOk};
+    ghost use Rattle.std.specs.Prelude.{◌≢◌, ◌≤◌, ℕ, List, [], ◌∷◌, IfErr, IfOk, OnOk};
     ghost use Rattle.message_writing.specs.Outcomes.{FailsToPutAny};
     ghost use Rattle.message_writing.specs.Responses.{IsWritten, records_of};
     ghost use Rattle.message_writing.specs.Writers.{CanGoOn, FailsToBegin, HasNoGroups, IsHeadOf, IsUnderway, PutsGroups};
+    ghost use Rattle.message_writing.specs.KeptText.{IsPlaced};
+    ghost use Rattle.message_writing.specs.KnownNames.{IsKnown};
+    ghost use Rattle.message_writing.specs.declared.response.Group.{Group as OfGroup};
     ghost use Rattle.message_writing.specs.declared.response.Response.{Response as Meant};
+    ghost use Rattle.zone_proto.specs.Names.{Name as OfName};
+    ghost use Rattle.zone_proto.specs.declared.record.Record.{Record as Sent};
 
     /// Begins a response of at most so many octets, in place of the octets of `out`: room for its header, and the question. `asked`
     /// is the name of the question in lower case, if the caller has it: by it owners are found sooner, and the octets are the same.
@@ -107,6 +115,56 @@ impl<'q> ResponseWriter<'q> {
         let written = write_group(out, &mut self.hints, &self.setting, group)?;
         let count = count_if(written, group);
         self.counts = counts_with(self.counts, section, written, count);
+        Ok(())
+    }
+
+    /// Where an origin stands at the end of the question's name, if it does in the case of these letters and a pointer may lead there.
+    pub fn place_of(&self, out: &[u8], origin: &LowerName) -> Option<u16>
+        ensures { IfSome result (λ place. IsKnown out.now place origin.now) }
+    {
+        let whole = wire_length(self.head.query.question.name.labels());
+        let end = wire_length(origin.labels());
+        if whole < end {
+            return None;
+        }
+        let place = (AFTER_HEADER + (whole - end)) as u16;
+        if is_known(out, place, origin.labels()) {
+            Some(place)
+        } else {
+            None
+        }
+    }
+
+    /// Appends kept records to a section, as [`put`](ResponseWriter::put) appends a group, with pointers to the place of their origin.
+    /// Fails only for lack of memory.
+    pub fn put_kept(
+        &mut self,
+        out: &mut Vec<u8>,
+        section: Section,
+        kept: &KeptRecords,
+        place: u16,
+    ) -> Result<(), AllocError>
+        requires going { CanGoOn self.old out.old.items }
+        requires placed { (rs : List Sent) × IsPlaced out.old.items place rs kept.now }
+        ensures put { OnOk result ((g : OfGroup)
+            → IsPlaced out.old.items place (records_of g) kept.now
+            → PutsGroups section (g ∷ []) self.old out.old.items self.new out.new.items) }
+        ensures going { OnOk result (CanGoOn self.new out.new.items) }
+        ensures known { OnOk result ((p : ℕ) (n : OfName) → IsKnown out.old.items p n
+            → IsKnown out.new.items p n) }
+    {
+        let counts = self.counts;
+        if counts.truncated {
+            return Ok(());
+        }
+        let start = out.as_slice().len();
+        kept.text.push_to(out, place)?;
+        if out.as_slice().len() > self.setting.room {
+            out.truncate(start);
+            self.counts = counts_with(counts, section, false, 0);
+            return Ok(());
+        }
+        self.counts = counts_with(counts, section, true, kept.count);
         Ok(())
     }
 
