@@ -21,4 +21,5 @@ pub mod ProvableWalk
 pub mod ProvenNames
 pub mod UnsentSets
 pub mod ResponseCases
+pub mod ApexDenials
 pub mod ResponseExamples

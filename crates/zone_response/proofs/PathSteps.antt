@@ -20,7 +20,7 @@ module _ (q : Inquiry) where
       ap (λ i. path_from q i seen a x) e
       ∙ ap (λ b. cond b (ended unfollowed) (behind (step q a x).answers (step q a x).made (searched (path_from q j (seen ++ x ∷ []) (a ++ (step q a x).answers)) (next_behind q a x)))) h
 
-  unseen : (k j : ℕ) (seen : List Name) (a : List RRset) (x : Name) → k ≡ suc j → list_any (name_eq x) seen ≡ false
+  pub unseen : (k j : ℕ) (seen : List Name) (a : List RRset) (x : Name) → k ≡ suc j → list_any (name_eq x) seen ≡ false
       → path_from q k seen a x ≡ behind (step q a x).answers (step q a x).made (searched (path_from q j (seen ++ x ∷ []) (a ++ (step q a x).answers)) (next_behind q a x))
   unseen k j seen a x e h =
       ap (λ i. path_from q i seen a x) e

@@ -16,3 +16,4 @@ pub mod HashedDenials
 pub mod Denials
 pub mod Additional
 pub mod Responses
+pub mod ApexDenials

@@ -193,8 +193,8 @@ fn below_root(wildcard: Option<&LowerName>) -> Option<&LowerName>
     }
 }
 
-/// What is asked of a zone that denies by NSEC3, of this kind, about a name.
-fn hashed_query<'q>(
+/// What is asked of a zone that denies by NSEC3, of this kind, about a name; None where it denies otherwise.
+pub fn hashed_query<'q>(
     kind: Option<&'q NxProofKind>,
     name: &'q LowerName,
 ) -> Option<Nsec3QueryInfo<'q>>

@@ -9,7 +9,7 @@ ghost use Rattle.zone_map.specs.Zones.{set_at};
 ghost use Rattle.zone_denial.specs.Nsec3Denial.{cover_owner};
 ghost use Rattle.zone_response.specs.HashedDenials.{matching, covering, of_labels, provable, tried, wildcard_sets, wildcard_hashed, absent_below, absent_sets, absent_hashed, below_hashed, left_out_sets, left_out_hashed, present_sets, present_hashed, hash_of, hashed_by, have_owners};
 
-use crate::covering::{covering, matching, matching_or_covering};
+use crate::hashed_sets::{covering, matching, matching_or_covering};
 use crate::lists::push;
 use crate::names::{is_at_or_above, same_name};
 use crate::question::ServedZone;

@@ -1,5 +1,6 @@
-//! Laws of the searches that are made for a response. Each is an empty function whose contract is the law, so a program has no
+//! Laws of responses. Each is an empty function whose contract is the law, so a program has no
 //! need to call one.
+ghost use Rattle.zone_response.specs.ApexDenials.{MissingChildrenAreDenied};
 ghost use Rattle.zone_response.specs.SearchLaws.{NamesAreFew, SearchesAreFew};
 
 /// The searches of the zone's map that `respond_counted` of `zone_response` counts at most (`most_searches`) don't grow with the
@@ -9,4 +10,11 @@ ghost use Rattle.zone_response.specs.SearchLaws.{NamesAreFew, SearchesAreFew};
 pub fn few_searches_are_made()
     ensures searches { SearchesAreFew }
     ensures names { NamesAreFew }
+{}
+
+/// A name one label below the origin of a zone that doesn't exist is denied by the zone's SOA, and with DNSSEC by the sets that prove it, where the
+/// origin owns no DNAME set and the wildcard below it doesn't exist (RFC 2308 section 2.1).
+#[tactic(auto, using(crate::proofs::ApexDenials::missing_children_are_denied))]
+pub fn missing_children_are_denied()
+    ensures { MissingChildrenAreDenied }
 {}

@@ -11,13 +11,14 @@
 mod additional;
 mod aname;
 mod answering;
-mod covering;
+mod apex_denials;
 mod cursor;
 mod denials;
 mod descent;
 mod dname;
 mod dname_repeats;
 mod hashed_denials;
+mod hashed_sets;
 pub mod laws;
 mod lists;
 mod names;
@@ -33,5 +34,10 @@ mod steps;
 mod wildcards;
 
 pub use answering::{respond, respond_counted};
+pub use apex_denials::{is_missing_child, plain_apex};
+pub use denials::hashed_query;
+pub use hashed_sets::{covering, matching, matching_or_covering};
+pub use query_types::is_no_data;
 pub use question::{Question, ServedZone};
 pub use response::{Part, Response, Sent};
+pub use sections::negative_ttl;

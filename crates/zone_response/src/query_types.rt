@@ -6,7 +6,7 @@ ghost use Rattle.zone_response.specs.QueryTypes.{is_no_data};
 use zone_proto::RecordType;
 
 /// Whether no record of a zone has a type, ANY aside.
-pub(crate) fn is_no_data(record_type: RecordType) -> bool
+pub fn is_no_data(record_type: RecordType) -> bool
     ensures { result ≡ is_no_data record_type.0 }
 {
     let RecordType(number) = record_type;

@@ -65,7 +65,7 @@ pub(crate) fn left_at(end: End<'_>) -> Option<LowerName>
 }
 
 /// The TTL of a negative response, from the zone's SOA set.
-fn negative_ttl(soa: &RecordSet) -> u32
+pub fn negative_ttl(soa: &RecordSet) -> u32
     ensures { result ≡ negative_ttl soa.now }
 {
     match first_soa(soa) {

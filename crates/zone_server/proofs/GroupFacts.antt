@@ -54,7 +54,7 @@ puts_none section w octets =
 sets_join : (gs hs : List Group) (xs ys : List RRset) → AreSets gs xs → AreSets hs ys → AreSets (gs ++ hs) (xs ++ ys)
 sets_join gs hs xs ys e f = map-append records_of gs hs ∙ (λ i. e i ++ f i) ∙ sym (map-append records_sent xs ys)
 
-puts_then : (section : Section) (xs ys : List RRset) (before mid after : ResponseWriter) (old here new : List ℕ)
+pub puts_then : (section : Section) (xs ys : List RRset) (before mid after : ResponseWriter) (old here new : List ℕ)
     → PutsSets section xs before old mid here → PutsSets section ys mid here after new → PutsSets section (xs ++ ys) before old after new
 puts_then section xs ys before mid after old here new p q = λ limit r last u.
     let a = p limit r last u in

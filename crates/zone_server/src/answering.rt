@@ -215,7 +215,7 @@ fn send_response<Z: ServedZones>(
 }
 
 /// Whether a query asks for DNSSEC (RFC 3225 section 3).
-fn asks_for_dnssec(query: &Query) -> bool
+pub fn asks_for_dnssec(query: &Query) -> bool
     ensures { result ≡ (asked_of query.now).signed }
 {
     match query.extension {

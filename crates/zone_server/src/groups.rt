@@ -5,14 +5,15 @@ ghost use Rattle.zone_proto.specs.declared.record.Record.{Record as RecordData};
 ghost use Rattle.zone_lookup.specs.FoundSets.{found_set};
 ghost use Rattle.zone_response.specs.Sections.{covers, own_signatures, sections, sent_set};
 ghost use Rattle.message_writing.specs.Outcomes.{FailsToPutAny};
-ghost use Rattle.message_writing.specs.Responses.{with_ttl};
+ghost use Rattle.message_writing.specs.KeptText.{AreKept};
+ghost use Rattle.message_writing.specs.Responses.{records_of, with_ttl};
 ghost use Rattle.message_writing.specs.Writers.{CanGoOn};
 ghost use Rattle.zone_server.specs.Answers.{records_in, records_sent};
 ghost use Rattle.zone_server.specs.Sending.{PutsSections, PutsSets};
 
-use message_writing::{Group, ResponseWriter, Section, WriteError};
+use message_writing::{Group, KeptRecords, ResponseWriter, Section, WriteError, keep_records};
 use std::alloc::Global;
-use zone_proto::{ProtoError, Record};
+use zone_proto::{LowerName, ProtoError, Record};
 use zone_response::{Part, Response, Sent};
 
 /// Appends the sets of a response, section by section, to what is written of it.
@@ -73,8 +74,9 @@ fn put_sets(
     Ok(())
 }
 
-/// Appends a set to a section.
-fn put_set(
+/// Appends a set to a section, whole or not at all, as [`ResponseWriter::put`] appends a group. `Unwritable` if no octets are the data of one of its records, and
+/// `Memory`; the response can't go on then.
+pub fn put_set(
     alloc: Global,
     writer: &mut ResponseWriter<'_>,
     out: &mut Vec<u8>,
@@ -112,12 +114,37 @@ fn put_records(
     ensures going { OnOk result (CanGoOn writer.new out.new.items) }
     ensures err { IfErr result (FailsToPutAny (records_sent (sent_set sent.now))) }
 {
-    let group = Group {
+    writer.put(out, section, &group_of(sent, signatures))
+}
+
+/// What is sent of a set, with these signatures, as a group.
+fn group_of<'s>(sent: &'s Sent<'_>, signatures: &'s [Record]) -> Group<'s>
+    requires { map (with_ttl sent.now.ttl) signatures.now ≡ (sent_set sent.now).signatures }
+    ensures { records_of result ≡ records_sent (sent_set sent.now) }
+{
+    Group {
         records: records_out(sent),
         signatures,
         ttl: sent.ttl,
-    };
-    writer.put(out, section, &group)
+    }
+}
+
+/// Keeps what is sent of a set, below an origin, as the octets that go out. None if no octets are the data of one of its records. Its only error is `Memory`.
+pub fn keep_set(
+    alloc: Global,
+    origin: &LowerName,
+    sent: &Sent<'_>,
+) -> Result<Option<KeptRecords>, ProtoError>
+    ensures { IfOk result (λ kept. IfSome kept
+        (AreKept origin.now (records_sent (sent_set sent.now)))) }
+{
+    match signatures_lent(sent) {
+        Some(signatures) => Ok(keep_records(alloc, origin, &group_of(sent, signatures))?),
+        None => {
+            let own = own_signatures(alloc, sent)?;
+            Ok(keep_records(alloc, origin, &group_of(sent, own.as_slice()))?)
+        }
+    }
 }
 
 /// The records of a set that are sent.

@@ -22,9 +22,10 @@ mod transport;
 mod waiting;
 mod zones;
 
-pub use answering::{Answered, answer, answer_from, answer_read_from};
+pub use answering::{Answered, answer, answer_from, answer_read_from, asks_for_dnssec};
 pub use bare_header::{MALFORMED, write_bare_header};
 pub use frames::{Frame, Mode, frame_of};
+pub use groups::{keep_set, put_set};
 pub use listed_zones::ListedZones;
 pub use sending::{send_code, send_soa};
 pub use server::Server;

@@ -2,7 +2,7 @@ use Rattle.std.proofs.Common.{List, ◌∙◌, sym, subst}
 use Rattle.std.specs.Map.Iter.{TakesLast, deref}
 use Rattle.zone_proto.specs.Names.{Name}
 use Rattle.zone_denial.proofs.Hashed.CoverSets.{cover_before, cover_round}
-use Rattle.zone_response.proofs.covering.cover_owner.Goals as goal
+use Rattle.zone_response.proofs.hashed_sets.cover_owner.Goals as goal
 
 pub returns-in-Some-clause-found : goal.returns-in-Some-clause-found
 returns-in-Some-clause-found c =

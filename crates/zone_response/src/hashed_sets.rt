@@ -8,8 +8,8 @@ ghost use Rattle.zone_denial.specs.Nsec3Denial.{cover_owner};
 use zone_map::{Reads, RecordMap};
 use zone_proto::{LowerName, ProtoError, RecordSet, RecordType, RrKey};
 
-/// The set that matches: that of the owner itself.
-pub(crate) fn matching<'m>(
+/// The set that matches: that of the owner itself. Its only error is `Memory`.
+pub fn matching<'m>(
     denials: &'m RecordMap,
     owner: &LowerName,
 ) -> Result<Option<&'m RecordSet>, ProtoError>
@@ -20,8 +20,8 @@ pub(crate) fn matching<'m>(
     Ok(denials.get(&key))
 }
 
-/// The set that covers: that of the greatest owner before this one, or of the greatest of all where none is before.
-pub(crate) fn covering<'m>(
+/// The set that covers: that of the greatest owner before this one, or of the greatest of all where none is before. Its only error is `Memory`.
+pub fn covering<'m>(
     denials: &'m RecordMap,
     owner: &LowerName,
 ) -> Result<Option<&'m RecordSet>, ProtoError>
@@ -36,8 +36,8 @@ pub(crate) fn covering<'m>(
     }
 }
 
-/// The set that matches, or else the one that covers.
-pub(crate) fn matching_or_covering<'m>(
+/// The set that matches, or else the one that covers. Its only error is `Memory`.
+pub fn matching_or_covering<'m>(
     denials: &'m RecordMap,
     owner: &LowerName,
 ) -> Result<Option<&'m RecordSet>, ProtoError>
