@@ -255,8 +255,8 @@ uint32_t nk_zones_expire(nk_zones *zones, const uint8_t *origin, size_t origin_l
 
 /* Keeps the answers that the zone with this origin gives most as the octets that go out: those for A and AAAA of each name that has an address
  * or an alias, and those for each set of the types NS, SOA, MX, SRV, TXT and DNSKEY, to a query without EDNS and to one that takes DNSSEC
- * records (DO); none that is truncated. Such a query is answered in less time, if the letters of its name are lower case. No answer changes,
- * and no zone. It takes as long as so many queries, and memory: some 350 octets for a name with an address, and 1,000 in a zone that is
+ * records (DO); none that is truncated. Such a query is answered in less time, if the letters of its name are lower case; and so is one for
+ * a name right below the origin that doesn't exist, if the letters of the origin are. No answer changes, and no zone. It takes as long as so many queries, and memory: some 350 octets for a name with an address, and 1,000 in a zone that is
  * signed with NSEC. What is kept goes with the zone: where that is replaced, ask again. nk_zones_copy shares it.
  * NK_DONE, NK_NO_ZONE, NK_BAD_NAME, NK_NO_MEMORY or NK_CLOSED. */
 uint32_t nk_zones_prepare(nk_zones *zones, const uint8_t *origin, size_t origin_length);

@@ -1,5 +1,5 @@
 -- Ready answers: responses of a zone that are kept as the octets that go out
-use Rattle.std.specs.Prelude.{◌≡◌, ℕ, ◌+◌, ◌≤◌, ◌==◌, Bool, true, false, List, ◌++◌, drop, length, take, Option, Some}
+use Rattle.std.specs.Prelude.{◌≡◌, ℕ, ◌+◌, ◌≤◌, ◌==◌, Bool, true, false, List, ◌++◌, drop, length, take, Option, Some, IfSome}
 use Rattle.std.specs.List.{AllByRecursion}
 use Rattle.zone_proto.specs.Names.{Name, lower, is_at_or_above}
 use Rattle.zone_proto.specs.Types.{DS}
@@ -10,6 +10,7 @@ use Rattle.zone_response.specs.Queries.{Zone}
 use Rattle.zone_response.specs.Responses.{IsResponse}
 use Rattle.zone_response.specs.Sections.{Sections}
 use Rattle.zone_server.specs.Answers.{asked_of, GoesOut}
+use Rattle.ready_denials.specs.Denials.{IsDenial}
 use Rattle.ready_answers.specs.Again.{said_by}
 use Rattle.ready_table.specs.declared.table.Place.{Place}
 use Rattle.ready_table.specs.declared.table.ReadyTable.{ReadyTable}
@@ -51,6 +52,10 @@ pub record IsReadyAt (z : Zone) (octets : List ℕ) (p : Place) : Type 0 where
 -- the answers of a table are those of a zone
 abbrev pub AreReady : Zone → ReadyTable → Type 0
 AreReady z t = AllByRecursion (IsReadyAt z t.octets.items) t.places.items
+
+-- what a table keeps to deny names, if it does, is of a zone
+abbrev pub DeniesFor : Zone → ReadyTable → Type 0
+DeniesFor z t = IfSome t.denial (IsDenial z)
 
 -- octets are the response of a zone to some query of the question of a message that says so by EDNS
 pub record IsFound (z : Zone) (limit : ℕ) (dnssec_ok : Option Bool) (message octets : List ℕ) : Type 0 where

@@ -2,17 +2,20 @@
 ghost use Rattle.std.specs.Prelude.{◌≡◌, ◌≤◌, ◌<◌, ◌+◌, Ok, drop, false, length, take, IfOk, IfSome, IsTrue, OnOk};
 ghost use Rattle.message_reading.specs.declared.query.Query.{Query as Asked};
 ghost use Rattle.message_reading.specs.Queries.{query_of};
-ghost use Rattle.zone_response.specs.Queries.{Zone};
+ghost use Rattle.zone_proto.specs.Names.{lower};
+ghost use Rattle.zone_response.specs.Queries.{zone_of, Zone};
 ghost use Rattle.zone_server.specs.Limits.{limit_for};
 ghost use Rattle.ready_answers.specs.Again.{said_by};
-ghost use Rattle.ready_table.specs.Ready.{octets_at, question_at, AreReady, IsFound, IsQuestionText, IsReady, IsReadyAt};
+ghost use Rattle.ready_table.specs.Ready.{octets_at, question_at, AreReady, DeniesFor, IsFound, IsQuestionText, IsReady, IsReadyAt};
 
 use crate::limits::{is_same, said_by};
 use crate::questions::hint_of;
 use message_reading::{HEADER_OCTETS, Query};
 use ready_answers::put_again;
+use ready_denials::{ReadyDenial, put_denial};
 use std::alloc::{AllocError, Global};
-use zone_proto::RecordType;
+use zone_proto::{LowerName, Nsec3Hash, RecordType, Signer};
+use zone_response::ServedZone;
 use zone_server::{Transport, limit_for};
 
 /// How many slots are looked at for a query.
@@ -42,6 +45,8 @@ pub struct ReadyTable {
     pub(crate) octets: Vec<u8>,
     /// One more than the index of a place, or 0, where the hints of queries lead to.
     pub(crate) slots: Vec<u32>,
+    /// What denies names one label below the origin that don't exist, if that is kept.
+    pub(crate) denial: Option<ReadyDenial>,
 }
 
 impl ReadyTable {
@@ -53,6 +58,7 @@ impl ReadyTable {
             places: Vec::new(alloc),
             octets: Vec::new(alloc),
             slots: Vec::new(alloc),
+            denial: None,
         }
     }
 
@@ -79,6 +85,33 @@ impl ReadyTable {
         let limit = limit_for(transport, query);
         match self.find(message, query.question.query_type, limit, said_by(query)) {
             Some(ready) => put_again(out, ready, query),
+            None => Ok(false),
+        }
+    }
+
+    /// Puts the denial of a name one label below the origin of the zone that doesn't exist in place of the octets of `out`, if what denies it is kept,
+    /// and says whether it did. It is an answer of the zone, within what the response to this query may have. `name` is that of the question in lower
+    /// case. If it didn't, the octets of `out` are no response. Fails only for lack of memory.
+    pub fn put_denial<S: Signer, H: Nsec3Hash>(
+        &self,
+        alloc: Global,
+        zone: &ServedZone<'_, S, H>,
+        query: &Query,
+        name: &LowerName,
+        transport: Transport,
+        out: &mut Vec<u8>,
+    ) -> Result<bool, AllocError>
+        requires kept { DeniesFor (zone_of S.signature_of H.digest_of zone.now) self.now }
+        requires name { name.now ≡ lower query.now.question.name }
+        ensures { IfOk result (λ denied. IsTrue denied
+            → IsReady (zone_of S.signature_of H.digest_of zone.now)
+            (limit_for transport query.now.extension) query.now out.new.items) }
+    {
+        match &self.denial {
+            Some(denial) => {
+                let limit = limit_for(transport, query);
+                put_denial(alloc, zone, denial, query, name, limit, out)
+            }
             None => Ok(false),
         }
     }
@@ -165,11 +198,17 @@ impl ReadyTable {
         ensures { IfOk result (λ table. (z : Zone) → AreReady z self → AreReady z table) }
     {
         let slots = slots_of(alloc, &self)?;
-        let ReadyTable { places, octets, .. } = self;
+        let ReadyTable {
+            places,
+            octets,
+            denial,
+            ..
+        } = self;
         Ok(ReadyTable {
             places,
             octets,
             slots,
+            denial,
         })
     }
 

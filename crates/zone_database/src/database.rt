@@ -215,7 +215,7 @@ impl ZoneDatabase {
         };
         match nearest(&self.zones, &name)? {
             Some((origin, stored)) => {
-                if stored.put_ready(message, query, transport, out)? {
+                if stored.put_ready(message, query, &name, transport, out)? {
                     Ok(Some(origin.num_labels() + 1))
                 } else {
                     Ok(None)

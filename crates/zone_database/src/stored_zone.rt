@@ -1,6 +1,7 @@
 //! A zone as a database has it, with the answers that are kept of it.
 ghost use Rattle.std.specs.Prelude.{◌≡◌, IfOk, IsTrue, Ok};
 ghost use Rattle.std.specs.Arc.{arc_value};
+ghost use Rattle.zone_proto.specs.Names.{lower};
 ghost use Rattle.message_reading.specs.Queries.{query_of};
 ghost use Rattle.zone_server.specs.Limits.{limit_for};
 ghost use Rattle.ready_table.specs.Ready.{IsReady};
@@ -12,6 +13,7 @@ use ready_table::{ReadyTable, ready_table};
 use std::alloc::{AllocError, Global};
 use std::marker::Model;
 use std::sync::Arc;
+use zone_proto::LowerName;
 use zone_server::Transport;
 
 /// A zone, and the answers that are kept of it. Several databases may share both. Contracts see the zone.
@@ -95,21 +97,35 @@ impl StoredZone {
         })
     }
 
-    /// Puts the answer to a query that is kept in place of the octets of `out`, and says whether there is one. Fails only for
-    /// lack of memory.
+    /// Puts the answer to a query that is kept, or is made of what is kept, in place of the octets of `out`, and says whether there is one. `name` is
+    /// that of the question in lower case. Fails only for lack of memory.
     pub(crate) fn put_ready(
         &self,
         message: &[u8],
         query: &Query,
+        name: &LowerName,
         transport: Transport,
         out: &mut Vec<u8>,
     ) -> Result<bool, AllocError>
+        requires { name.now ≡ lower query.now.question.name }
         ensures { IfOk result (λ found. IsTrue found → query_of message.now ≡ Ok query.now
             → IsReady (served_zone self.now)
             (limit_for transport query.now.extension) query.now out.new.items) }
     {
         match &self.ready {
-            Some(ready) => ready.put_ready(message, query, transport, out),
+            Some(ready) => {
+                if ready.put_ready(message, query, transport, out)? {
+                    return Ok(true);
+                }
+                ready.put_denial(
+                    self.zone.origin.alloc(),
+                    &lent(&self.zone),
+                    query,
+                    name,
+                    transport,
+                    out,
+                )
+            }
             None => Ok(false),
         }
     }

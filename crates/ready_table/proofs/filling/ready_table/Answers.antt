@@ -1,5 +1,4 @@
 use Rattle.std.proofs.Common.{◌≡◌, ◌∙◌, [], ◌∷◌, ◌++◌, map, refl, ap}
-use Rattle.std.proofs.lemmas.Result.{IfOk-weaker}
 use Rattle.zone_response.specs.Queries.{Zone, zone_of}
 use Rattle.zone_response.specs.declared.question.ServedZone.{ServedZone}
 use Rattle.ready_table.proofs.filling.ready_table.Goals as goal
@@ -7,6 +6,10 @@ use Rattle.ready_table.proofs.filling.ready_table.Goals as goal
 pub returns : goal.returns
 returns g c =
     let kept : ServedZone g.row.S.Denot g.row.H.Denot → Zone = zone_of g.S.Signer.signature_of g.H.Nsec3Hash.digest_of in
-    let one : map kept c.in_ok-zones.zones ≡ kept c.args.zone ∷ [] =
+    let z = kept c.args.zone in
+    let one : map kept c.in_ok-zones.zones ≡ z ∷ [] =
     ap (map kept) (c.in_ok-zones.ensures ∙ c.in_ok-push.ensures.items ∙ ap (λ l. l ++ c.args.zone ∷ []) c.new-list.ensures.items) in
-    IfOk-weaker c.with_slots.result _ _ (λ table keeps. keeps (kept c.args.zone) (c.in_ok-keep_all.ensures (kept c.args.zone) one refl (c.new-table.ensures (kept c.args.zone)))) c.with_slots.ensures
+    record {
+      ready = c.in_ok-table.ensures z (c.in_ok-keep_all.ensures z one refl (c.new-table.ensures z));
+      denial = c.in_ok-denial.ensures;
+    }

@@ -1,0 +1,3 @@
+pub mod OwnersOnce
+pub mod HashedDenials
+pub mod DenialFacts
