@@ -1,0 +1,4 @@
+pub mod Locality
+pub mod Renewal
+pub mod RenewalLaws
+pub mod TrimmedRenewals
