@@ -28,7 +28,9 @@ pub struct RenewedSets {
 ///
 /// They are those of the owners of these sets, of the names below each zone cut that came or went, and of the nearest name before each of these
 /// that has an NSEC set and is to have one. Each has the TTL `ttl`, in seconds, and the serial `serial`. Every other name keeps the NSEC set that it has
-/// (RFC 4035 section 2.3). It costs what these names cost, whatever else the zone has; and the glue that stands between them and the next names.
+/// (RFC 4035 section 2.3). It costs what these names cost, and the glue that stands between them and the next names, whatever else the zone has. But where a
+/// zone cut comes or goes, it may cost the square of the number of names below it: for each of these the nearest name before it is looked for beyond
+/// the others, and that one's set is made anew each time.
 ///
 /// # Errors
 ///
