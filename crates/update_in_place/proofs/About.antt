@@ -55,7 +55,7 @@ unmet origin m ps rs f h = by (met origin m ps) h
     by (Ok ds) g = absurd cc
 
 -- what is refused for a cause is refused for it as a part of more
-passes : {A B : Type 0} (e : Refusal) (made : Result A Refusal) (more : Result B Refusal) → IsRefusal e made → (made ≡ Err e → more ≡ Err e) → IsRefusal e more
+pub passes : {A B : Type 0} (e : Refusal) (made : Result A Refusal) (more : Result B Refusal) → IsRefusal e made → (made ≡ Err e → more ≡ Err e) → IsRefusal e more
 passes Memory made more h f = tt
 passes FormErr made more h f = f h
 passes NXDomain made more h f = f h

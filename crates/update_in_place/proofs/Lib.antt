@@ -8,3 +8,4 @@ pub mod Exchanged
 pub mod Alone
 pub mod Made
 pub mod Steps
+pub mod PermittedPart

@@ -46,6 +46,14 @@ pub record IsPartAfter (p : Name → Bool) (m whole part : Sets) : Type 0 where
   pub ordered : InOrder whole
   pub others : (q : RrKey) → p q.name ≡ false → lookup (key_eq q) whole ≡ lookup (key_eq q) m
 
+-- the names of records pass
+abbrev pub Pass : (Name → Bool) → List Entry → Type 0
+Pass p rs = AllByRecursion (λ (r : Entry). p (lower r.name) ≡ true) rs
+
+-- the changes of an update, one after the other
+abbrev pub begun : Name → Sets → List Change → Course
+begun origin m cs = run origin (serial_before origin m) (record { sets = m; changed = false }) cs
+
 module _ (p : Name → Bool) (m : Sets) (ordered : InOrder m) where
   nothing : IsLocal p m None None
   nothing = record { same = refl; ordered = ordered; others = λ q g. refl }
@@ -187,7 +195,7 @@ module _ (p : Name → Bool) where
           others = λ q g. put_passed p x (key origin SOA) q (next s) at_origin g ∙ others q g;
         }
 
-    of_finished : (m : Sets) (whole : Course) → InOrder whole.sets → ((q : RrKey) → p q.name ≡ false → lookup (key_eq q) whole.sets ≡ lookup (key_eq q) m)
+    pub of_finished : (m : Sets) (whole : Course) → InOrder whole.sets → ((q : RrKey) → p q.name ≡ false → lookup (key_eq q) whole.sets ≡ lookup (key_eq q) m)
         → IsPartAfter p m (finished origin m whole) (finished origin (kept p m) (record { sets = kept p whole.sets; changed = whole.changed }))
     of_finished m whole o others =
         subst (λ (n : Option ℕ). IsPartAfter p m (finished origin m whole)
@@ -202,24 +210,23 @@ module _ (p : Name → Bool) where
         by true = of_next whole.sets m o others
         by false = record { same = refl; ordered = o; others = others }
 
+    pub begun_kept : (m : Sets) (cs : List Change) → InOrder m → EachPasses p cs → AreLocal p m (begun origin m cs) (begun origin (kept p m) cs)
+    begun_kept m cs o h =
+        subst (λ (n : Option ℕ). AreLocal p m (begun origin m cs) (run origin (unwrap_or n 0) (record { sets = kept p m; changed = false }) cs)) (sym (serial_kept m))
+        (of_changes (serial_before origin m) origin cs false m o h)
+
     abbrev made_of : Sets → List Change → Sets
-    made_of m cs = finished origin m (run origin (serial_before origin m) (record { sets = m; changed = false }) cs)
+    made_of m cs = finished origin m (begun origin m cs)
 
     of_all : (m : Sets) (cs : List Change) → InOrder m → EachPasses p cs → IsPartAfter p m (made_of m cs) (made_of (kept p m) cs)
     of_all m cs o h =
-        let local = of_changes (serial_before origin m) origin cs false m o h in
-        subst (λ (n : Option ℕ). IsPartAfter p m (made_of m cs) (finished origin (kept p m) (run origin (unwrap_or n 0) (record { sets = kept p m; changed = false }) cs)))
-        (sym (serial_kept m))
-        (subst (λ (c : Course). IsPartAfter p m (made_of m cs) (finished origin (kept p m) c)) (sym local.same)
-        (of_finished m (run origin (serial_before origin m) (record { sets = m; changed = false }) cs) local.ordered local.others))
+        let local = begun_kept m cs o h in
+        subst (λ (c : Course). IsPartAfter p m (made_of m cs) (finished origin (kept p m) c)) (sym local.same) (of_finished m (begun origin m cs) local.ordered local.others)
 
     -- ---- an update without prerequisites
 
-    abbrev Pass : List Entry → Type 0
-    Pass rs = AllByRecursion (λ (r : Entry). p (lower r.name) ≡ true) rs
-
     -- what an update of the part gives is a part of what that of the whole gives
-    pub updated_whole : (m part : Sets) (rs : List Entry) → InOrder m → Pass rs → updated origin (kept p m) [] rs ≡ Ok part
+    pub updated_whole : (m part : Sets) (rs : List Entry) → InOrder m → Pass p rs → updated origin (kept p m) [] rs ≡ Ok part
         → (whole : Sets) × (updated origin m [] rs ≡ Ok whole) × IsPartAfter p m whole part
     unfolding demands_of
     updated_whole m part rs o h e = by (changes_of origin rs) refl e
@@ -231,7 +238,7 @@ module _ (p : Name → Bool) where
             let same : made_of (kept p m) cs ≡ part = cc in
             (made_of m cs, refl, subst (IsPartAfter p m (made_of m cs)) same (of_all m cs o (each_passes p origin rs cs h k)))
 
-    pub updated_part : (m whole : Sets) (rs : List Entry) → InOrder m → Pass rs → updated origin m [] rs ≡ Ok whole
+    pub updated_part : (m whole : Sets) (rs : List Entry) → InOrder m → Pass p rs → updated origin m [] rs ≡ Ok whole
         → (part : Sets) × (updated origin (kept p m) [] rs ≡ Ok part) × IsPartAfter p m whole part
     unfolding demands_of
     updated_part m whole rs o h e = by (changes_of origin rs) refl e

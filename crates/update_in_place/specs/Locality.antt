@@ -6,6 +6,8 @@ use Rattle.shown_zones.specs.Steps.{IsStepIfAny}
 use Rattle.shown_zones.specs.declared.step.ZoneStep.{ZoneStep}
 use Rattle.zone_update.specs.Updates.{updated}
 use Rattle.zone_update.specs.declared.entry.Entry.{Entry}
+use Rattle.update_policy.specs.declared.rule.Rule.{Rule}
+use Rattle.update_permission.specs.Permissions.{is_each_permitted}
 use Rattle.update_in_place.specs.Parts.{is_among, names_about, sets_of, AreChanged}
 
 -- The sets of the names that an update is about are after it what it makes of them alone, and each other set stays.
@@ -19,3 +21,8 @@ UpdatesAreLocal = (origin : Name) (m after : Sets) (changes : List Entry) → Is
 abbrev pub StepsAreLocal : Type 0
 StepsAreLocal = (origin : Name) (names : List Name) (zone next before after : Sets) (step : Option ZoneStep) → IsZone zone → is_among names origin ≡ true
     → AreChanged names zone next before after → IsStepIfAny origin before after step → IsStepIfAny origin zone next step
+
+-- Whether the owner of a key may make changes is told by the sets of the names that they are about.
+abbrev pub PermissionsAreLocal : Type 0
+PermissionsAreLocal = (rules : List Rule) (key origin : Name) (m : Sets) (changes : List Entry)
+    → is_each_permitted rules key origin (sets_of (names_about origin changes) m) changes ≡ is_each_permitted rules key origin m changes

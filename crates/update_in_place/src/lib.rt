@@ -9,7 +9,9 @@ mod exchange;
 mod in_place;
 pub mod laws;
 mod parts;
+mod permitted;
 mod step;
 
 pub use in_place::{Changed, carry_out, planned_update, update_in_place};
+pub use permitted::planned_if_permitted;
 pub use step::step_of;

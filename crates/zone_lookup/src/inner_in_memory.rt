@@ -297,6 +297,17 @@ impl<S: Signer> InnerInMemory<S> {
         }
     }
 
+    /// Its record sets, taken out of it. Doesn't allocate.
+    pub fn into_record_map(self) -> RecordMap
+        ensures { result ≡ self.records }
+    {
+        let InnerInMemory {
+            records,
+            signers: _,
+        } = self;
+        records
+    }
+
     /// What [`InnerInMemory::inner_lookup`] finds; and of a name for which there is no set, whether it exists, or the
     /// wildcard at its closest encloser does. The walk up the name that looks for a zone cut sees this on its way. The
     /// call adds one to `searches`. Its only error is `Memory`.
