@@ -11,6 +11,7 @@ use Rattle.zone_response.specs.Responses.{IsResponse}
 use Rattle.zone_response.specs.Sections.{Sections}
 use Rattle.zone_server.specs.Answers.{asked_of, GoesOut}
 use Rattle.ready_denials.specs.Denials.{IsDenial}
+use Rattle.ready_referrals.specs.Referrals.{AreReferrals}
 use Rattle.ready_answers.specs.Again.{said_by}
 use Rattle.ready_table.specs.declared.table.Place.{Place}
 use Rattle.ready_table.specs.declared.table.ReadyTable.{ReadyTable}
@@ -56,6 +57,10 @@ AreReady z t = AllByRecursion (IsReadyAt z t.octets.items) t.places.items
 -- what a table keeps to deny names, if it does, is of a zone
 abbrev pub DeniesFor : Zone → ReadyTable → Type 0
 DeniesFor z t = IfSome t.denial (IsDenial z)
+
+-- what it keeps to refer names is of a zone
+abbrev pub RefersFor : Zone → ReadyTable → Type 0
+RefersFor z t = AreReferrals z t.referrals
 
 -- octets are the response of a zone to some query of the question of a message that says so by EDNS
 pub record IsFound (z : Zone) (limit : ℕ) (dnssec_ok : Option Bool) (message octets : List ℕ) : Type 0 where

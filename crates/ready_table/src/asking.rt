@@ -18,8 +18,8 @@ pub(crate) const WAY: Transport = Transport::Udp {
 };
 
 /// Asks a zone, and puts its answer in place of the octets of `out`. The query that is answered, if the answer is to be kept:
-/// no message over UDP had to be cut for it, and the zone is an authority for the name (RFC 1035 section 4.1.1) or is asked for NS,
-/// which a referral tells too. Fails only for lack of memory.
+/// no message over UDP had to be cut for it, and the zone is an authority for the name (RFC 1035 section 4.1.1). Fails only for lack
+/// of memory.
 pub(crate) fn ask<Z: ServedZones>(
     alloc: Global,
     zones: &Z,
@@ -38,7 +38,7 @@ pub(crate) fn ask<Z: ServedZones>(
         return Ok(None);
     }
     answer(alloc, zones, message, WAY, out)?;
-    if is_kept(out.as_slice(), query.question.query_type) {
+    if is_kept(out.as_slice()) {
         Ok(Some(query))
     } else {
         Ok(None)
@@ -58,12 +58,10 @@ pub fn is_inside(origin: &LowerName, query: &Query) -> Result<bool, AllocError>
     }
 }
 
-/// Whether an answer is kept: TC is clear, and AA is set unless NS is asked for.
-fn is_kept(octets: &[u8], query_type: RecordType) -> bool {
+/// Whether an answer is kept: TC is clear, and AA is set.
+fn is_kept(octets: &[u8]) -> bool {
     match octets.get(2) {
-        Some(flags) => {
-            *flags / 2 % 2 == 0 && (*flags / 4 % 2 == 1 || query_type == RecordType::NS)
-        }
+        Some(flags) => *flags / 2 % 2 == 0 && *flags / 4 % 2 == 1,
         None => false,
     }
 }

@@ -1,12 +1,13 @@
 //! A table of what is asked of a zone most.
 ghost use Rattle.std.specs.Prelude.{◌≡◌, [], ◌∷◌, IfOk, OnOk};
 ghost use Rattle.zone_response.specs.Queries.{zone_of, Zone};
-ghost use Rattle.ready_table.specs.Ready.{AreReady, DeniesFor};
+ghost use Rattle.ready_table.specs.Ready.{AreReady, DeniesFor, RefersFor};
 
 use crate::asking::{ask, keep};
 use crate::questions::write_query;
 use crate::table::ReadyTable;
 use ready_denials::ready_denial;
+use ready_referrals::ready_referrals;
 use std::alloc::{AllocError, Global};
 use zone_map::RecordMap;
 use zone_proto::{LowerName, Nsec3Hash, RecordType, Signer};
@@ -18,24 +19,31 @@ const TXT: RecordType = RecordType(16);
 
 /// The ready answers of a zone: to a query for each set of the types A, AAAA, CNAME, MX, NS, SOA, SRV, TXT and DNSKEY, and for A
 /// and AAAA where a name has an address or an alias; each to a query without EDNS and to one that takes DNSSEC records. What is
-/// truncated isn't kept, and a referral only for NS. And what denies a name right below its origin. Fails only for lack of memory.
+/// truncated isn't kept, and of what isn't the zone's own nothing. And what denies a name right below its origin, and what refers at
+/// and below its cuts. Fails only for lack of memory.
 pub fn ready_table<S: Signer, H: Nsec3Hash>(
     alloc: Global,
     zone: ServedZone<'_, S, H>,
 ) -> Result<ReadyTable, AllocError>
     ensures ready { IfOk result (AreReady (zone_of S.signature_of H.digest_of zone.entry)) }
     ensures denial { IfOk result (DeniesFor (zone_of S.signature_of H.digest_of zone.entry)) }
+    ensures referrals { IfOk result (RefersFor (zone_of S.signature_of H.digest_of zone.entry)) }
 {
     let origin = zone.origin;
     let records = zone.inner.record_map();
     let denial = ready_denial(alloc, &zone)?;
+    let referrals = ready_referrals(alloc, &zone)?;
     let mut list = Vec::new(alloc);
     list.push(zone)?;
     let zones = ListedZones::new(alloc, list)?;
     let mut table = ReadyTable::new(alloc);
     keep_all(alloc, &zones, origin, records, &mut table)?;
     let table = table.with_slots(alloc)?;
-    Ok(ReadyTable { denial, ..table })
+    Ok(ReadyTable {
+        denial,
+        referrals,
+        ..table
+    })
 }
 
 /// Keeps the answers of a zone about its sets.

@@ -6,13 +6,14 @@ ghost use Rattle.zone_proto.specs.Names.{lower};
 ghost use Rattle.zone_response.specs.Queries.{zone_of, Zone};
 ghost use Rattle.zone_server.specs.Limits.{limit_for};
 ghost use Rattle.ready_answers.specs.Again.{said_by};
-ghost use Rattle.ready_table.specs.Ready.{octets_at, question_at, AreReady, DeniesFor, IsFound, IsQuestionText, IsReady, IsReadyAt};
+ghost use Rattle.ready_table.specs.Ready.{octets_at, question_at, AreReady, DeniesFor, RefersFor, IsFound, IsQuestionText, IsReady, IsReadyAt};
 
 use crate::limits::{is_same, said_by};
 use crate::questions::hint_of;
 use message_reading::{HEADER_OCTETS, Query};
 use ready_answers::put_again;
 use ready_denials::{ReadyDenial, put_denial};
+use ready_referrals::{ReadyReferrals, put_referral};
 use std::alloc::{AllocError, Global};
 use zone_proto::{LowerName, Nsec3Hash, RecordType, Signer};
 use zone_response::ServedZone;
@@ -47,6 +48,8 @@ pub struct ReadyTable {
     pub(crate) slots: Vec<u32>,
     /// What denies names one label below the origin that don't exist, if that is kept.
     pub(crate) denial: Option<ReadyDenial>,
+    /// What refers at and below zone cuts.
+    pub(crate) referrals: ReadyReferrals,
 }
 
 impl ReadyTable {
@@ -59,6 +62,7 @@ impl ReadyTable {
             octets: Vec::new(alloc),
             slots: Vec::new(alloc),
             denial: None,
+            referrals: ReadyReferrals::new(alloc),
         }
     }
 
@@ -114,6 +118,26 @@ impl ReadyTable {
             }
             None => Ok(false),
         }
+    }
+
+    /// Puts the referral of a name at or below a zone cut in place of the octets of `out`, if it is kept, and says whether it did. It is an answer of the
+    /// zone, within what the response to this query may have. `name` is that of the question in lower case. If it didn't, the octets of `out` are no
+    /// response. Fails only for lack of memory.
+    pub fn put_referral(
+        &self,
+        alloc: Global,
+        query: &Query,
+        name: &LowerName,
+        transport: Transport,
+        out: &mut Vec<u8>,
+    ) -> Result<bool, AllocError>
+        requires kept { (z : Zone) × RefersFor z self.now }
+        requires name { name.now ≡ lower query.now.question.name }
+        ensures { IfOk result (λ referred. IsTrue referred → (z : Zone) → RefersFor z self.now
+            → IsReady z (limit_for transport query.now.extension) query.now out.new.items) }
+    {
+        let limit = limit_for(transport, query);
+        put_referral(alloc, &self.referrals, query, name, limit, out)
     }
 
     /// The octets of the answer to a message of this type that says so by EDNS, within a limit.
@@ -202,6 +226,7 @@ impl ReadyTable {
             places,
             octets,
             denial,
+            referrals,
             ..
         } = self;
         Ok(ReadyTable {
@@ -209,6 +234,7 @@ impl ReadyTable {
             octets,
             slots,
             denial,
+            referrals,
         })
     }
 

@@ -12,4 +12,5 @@ returns g c =
     record {
       ready = c.in_ok-table.ensures z (c.in_ok-keep_all.ensures z one refl (c.new-table.ensures z));
       denial = c.in_ok-denial.ensures;
+      referrals = c.in_ok-referrals.ensures;
     }

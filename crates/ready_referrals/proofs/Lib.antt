@@ -1,0 +1,4 @@
+pub mod ReferredNames
+pub mod Unauthoritative
+pub mod KeptSets
+pub mod KeptReferrals
