@@ -1,5 +1,6 @@
 pub mod Answered
 pub mod CallFacts
+pub mod NoDenials
 pub mod OwnDenials
 pub mod Preparing
 pub mod PutsInOrder

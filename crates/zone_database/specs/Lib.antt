@@ -7,3 +7,4 @@ pub mod Outcomes
 pub mod Texts
 pub mod Files
 pub mod Zones
+pub mod Versions

@@ -1,6 +1,7 @@
 //! The zones that a server has.
 ghost use Rattle.zone_database.specs.Origins.{AreUnderOrigins};
 
+use crate::next_zone::NextZone;
 use crate::stored_zone::StoredZone;
 use crate::zone::Zone;
 use message_reading::{Query, ReadError, read_query};
@@ -78,13 +79,19 @@ impl ZoneDatabase {
         ensures put { OnOk result (zones_in self.new ≡ with_zone zone (zones_in self.old)) }
         ensures same { OnErr result (zones_in self.new ≡ zones_in self.old) }
     {
-        let Ok(origin) = zone.origin.clone() else {
+        self.put_next(alloc, NextZone::of(zone))
+    }
+
+    /// Puts a zone among the others as [`put`](ZoneDatabase::put) does, and keeps the version before it, where it was made of that by
+    /// [`next_zone`](ZoneDatabase::next_zone) or [`NextZone::made_of`]: the next change is made in that version then.
+    pub fn put_next(&mut self, alloc: Global, next: NextZone) -> Result<(), AllocError>
+        ensures put { OnOk result (zones_in self.new ≡ with_zone next (zones_in self.old)) }
+        ensures same { OnErr result (zones_in self.new ≡ zones_in self.old) }
+    {
+        let Ok(origin) = next.origin().clone() else {
             return Err(AllocError);
         };
-        let Ok(shared) = Arc::new(alloc, zone) else {
-            return Err(AllocError);
-        };
-        let stored = StoredZone::new(shared);
+        let stored = StoredZone::of_next(alloc, next)?;
         match self.zones.insert(origin, stored) {
             Ok(_) => Ok(()),
             Err(_) => Err(AllocError),

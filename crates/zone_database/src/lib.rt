@@ -5,22 +5,26 @@
 mod buffer;
 pub mod calls;
 mod chain;
+mod changing;
 mod database;
 mod handle;
 pub mod laws;
 mod loads;
 mod nearest_zone;
+mod next_zone;
 mod outcome;
 mod reading;
 mod reporting;
 mod serials;
 mod stored_zone;
+mod version;
 mod zone;
 
 pub use buffer::{give, tell};
 pub use database::ZoneDatabase;
 pub use handle::DatabaseHandle;
 pub use loads::origin_of;
+pub use next_zone::NextZone;
 pub use outcome::Outcome;
 pub use reading::{ReadZone, TextFault, load_records, read_zone};
 pub use zone::{Zone, served, zone_of};

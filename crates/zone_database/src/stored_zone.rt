@@ -1,18 +1,23 @@
-//! A zone as a database has it, with the answers that are kept of it.
-ghost use Rattle.std.specs.Prelude.{◌≡◌, IfOk, IsTrue, Ok};
+//! A zone as a database has it, with the answers that are kept of it, and the version before it.
+ghost use Rattle.std.specs.Prelude.{◌≡◌, IfOk, IsTrue, Ok, Some};
 ghost use Rattle.std.specs.Arc.{arc_value};
 ghost use Rattle.zone_proto.specs.Names.{lower};
 ghost use Rattle.message_reading.specs.Queries.{query_of};
 ghost use Rattle.zone_server.specs.Limits.{limit_for};
 ghost use Rattle.ready_table.specs.Ready.{IsReady};
+ghost use Rattle.zone_database.specs.Versions.{LeadsIfAny};
 ghost use Rattle.zone_database.specs.Zones.{served_zone};
 
+use crate::next_zone::NextZone;
+use crate::version::{Version, same_sets};
 use crate::zone::{Zone, lent};
 use message_reading::Query;
 use ready_table::{ReadyTable, ready_table};
 use std::alloc::{AllocError, Global};
 use std::marker::Model;
+use std::mem;
 use std::sync::Arc;
+use zone_map::RecordMap;
 use zone_proto::LowerName;
 use zone_server::Transport;
 
@@ -22,19 +27,23 @@ pub struct StoredZone {
     pub(crate) zone: Arc<Zone>,
     /// The answers that are kept, if they were asked for.
     pub(crate) ready: Option<Arc<ReadyTable>>,
+    /// The version before it, if it is kept, which the next change brings up to date. No other database gets it.
+    spare: Option<Version>,
 }
 
 impl Model for StoredZone {
     ghost use Rattle.std.specs.Arc.{arc_value};
     ghost use Rattle.zone_database.specs.declared.zone.Zone.{Zone as OfDatabase};
     ghost use Rattle.zone_database.specs.ReadyZones.{AreReadyIfAny};
+    ghost use Rattle.zone_database.specs.Versions.{LeadsIfAny};
     ghost use Rattle.zone_database.specs.Zones.{served_zone};
 
     ghost Value = { OfDatabase };
 
     ghost view = { λ s. arc_value s.zone };
 
-    ghost invariant = { λ s. AreReadyIfAny (served_zone (arc_value s.zone)) s.ready };
+    ghost invariant = { λ s. AreReadyIfAny (served_zone (arc_value s.zone)) s.ready
+        × LeadsIfAny (arc_value s.zone).inner.records s.spare };
 }
 
 impl StoredZone {
@@ -42,7 +51,26 @@ impl StoredZone {
     pub(crate) fn new(zone: Arc<Zone>) -> StoredZone
         ensures { result ≡ arc_value zone }
     {
-        StoredZone { zone, ready: None }
+        StoredZone {
+            zone,
+            ready: None,
+            spare: None,
+        }
+    }
+
+    /// A zone that is to take the place of another, of which no answers are kept. Fails only for lack of memory.
+    pub(crate) fn of_next(alloc: Global, next: NextZone) -> Result<StoredZone, AllocError>
+        ensures { IfOk result (λ stored. stored ≡ next) }
+    {
+        let NextZone { zone, before } = next;
+        let Ok(zone) = Arc::new(alloc, zone) else {
+            return Err(AllocError);
+        };
+        Ok(StoredZone {
+            zone,
+            ready: None,
+            spare: before,
+        })
     }
 
     /// The zone.
@@ -67,7 +95,11 @@ impl StoredZone {
         match &self.ready {
             Some(ready) => {
                 let ready = Some(Arc::try_clone(ready)?);
-                Ok(StoredZone { zone, ready })
+                Ok(StoredZone {
+                    zone,
+                    ready,
+                    spare: None,
+                })
             }
             None => Ok(StoredZone::new(zone)),
         }
@@ -94,7 +126,28 @@ impl StoredZone {
         Ok(StoredZone {
             zone,
             ready: Some(table),
+            spare: None,
         })
+    }
+
+    /// The sets of the zone once more, to be changed. The version before the zone is given up for them, if it is kept. Fails only for lack of memory.
+    pub(crate) fn sets(&mut self, alloc: Global) -> Result<RecordMap, AllocError>
+        ensures same { self.new ≡ self.old }
+        ensures sets { IfOk result (λ sets. sets ≡ self.old.inner.records) }
+    {
+        let spare = self.take_spare();
+        match same_sets(alloc, spare, self.zone.inner.record_map()) {
+            Ok(sets) => Ok(sets),
+            Err(_) => Err(AllocError),
+        }
+    }
+
+    /// Takes the version before the zone, if it is kept.
+    fn take_spare(&mut self) -> Option<Version>
+        ensures same { self.new ≡ self.old }
+        ensures leads { LeadsIfAny self.old.inner.records result }
+    {
+        mem::replace(&mut self.spare, None)
     }
 
     /// Puts the answer to a query that is kept, or is made of what is kept, in place of the octets of `out`, and says whether there is one. `name` is
@@ -117,14 +170,11 @@ impl StoredZone {
                 if ready.put_ready(message, query, transport, out)? {
                     return Ok(true);
                 }
-                ready.put_denial(
-                    self.zone.origin.alloc(),
-                    &lent(&self.zone),
-                    query,
-                    name,
-                    transport,
-                    out,
-                )
+                let alloc = self.zone.origin.alloc();
+                if ready.put_referral(alloc, query, name, transport, out)? {
+                    return Ok(true);
+                }
+                ready.put_denial(alloc, &lent(&self.zone), query, name, transport, out)
             }
             None => Ok(false),
         }
