@@ -1,3 +1,4 @@
+pub mod Changes
 pub mod Committed
 pub mod Fits
 pub mod Grown

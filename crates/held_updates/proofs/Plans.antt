@@ -32,7 +32,7 @@ use Rattle.held_updates.specs.declared.planned.UpdatedZone.{UpdatedZone}
 use Rattle.held_updates.specs.Tables.{rules_for}
 use Rattle.held_updates.specs.Answering.{AnswersUpdate, Comes}
 use Rattle.held_updates.specs.Journaling.{IfUpdated, IsJournaled, IsPlanJournaled}
-use Rattle.held_updates.specs.Planning.{has_expired, is_signed, is_update, outcome_among, outcome_in, signing_of, updated_in, Plans, PlansAs, PlansBy, PlansSigned, PlansUpdate, RepliesTo, RepliesWith}
+use Rattle.held_updates.specs.Planning.{has_expired, is_signed, is_update, outcome_among, outcome_in, signing_of, updated_in, Plans, PlansAs, PlansBy, PlansSigned, PlansUpdate, RepliesTo}
 
 -- ---- the zone of an update
 
@@ -87,12 +87,6 @@ module _ (access : UpdateAccess) (key : Option Name) (zs : List Zone) (asked : U
   journaled_in is_kept made planned.Unchanged octets found replied framed = tt
   journaled_in is_kept made planned.Other octets found replied framed = tt
 
--- what comes of an update that makes a zone is what comes of this zone
-pub replied_with : (made : Result (Option Sets) Refusal) (after : Sets) (origin : Name) (z : Zone) (h : Header) (has_extension : Bool) (x : PlannedUpdate) (octets : List ℕ)
-    → made ≡ Ok (Some after) → z ≡ zone_of_records origin after → RepliesWith z h has_extension x octets → RepliesTo made origin h has_extension x octets
-replied_with made after origin z h has_extension x octets is its replied =
-    subst (λ (r : Result (Option Sets) Refusal). RepliesTo r origin h has_extension x octets) (sym is) (subst (λ (y : Zone). RepliesWith y h has_extension x octets) its replied)
-
 -- ---- what was planned comes
 
 pub signed : (access : UpdateAccess) (now : ℕ) (t : Tsig) (k : Key) (message : List ℕ) (zs : List Zone) (x : PlannedUpdate) (plain octets : List ℕ)
@@ -106,12 +100,12 @@ module _ (room : ℕ) (octets : List ℕ) (u : UpdatedZone) (zs : List Zone) whe
   pub long_comes : room < length octets → Comes room octets (planned.Updated u) zs answer.TooLong zs
   long_comes long = inr (long, refl, refl)
 
-pub answered : (access : UpdateAccess) (now room : ℕ) (message : List ℕ) (zs new : List Zone) (x : PlannedUpdate) (a : UpdateAnswer) (response octets : List ℕ)
-    → PlansUpdate access now message zs x octets → response ≡ octets → Comes room response x zs a new → AnswersUpdate access now room message zs a octets new
-answered access now room message zs new x a response octets plans is comes = record {
+pub answered : (access : UpdateAccess) (now room : ℕ) (message : List ℕ) (zs mid new : List Zone) (x : PlannedUpdate) (a : UpdateAnswer) (response octets : List ℕ)
+    → PlansUpdate access now message zs x octets → response ≡ octets → mid ≡ zs → Comes room response x mid a new → AnswersUpdate access now room message zs a octets new
+answered access now room message zs mid new x a response octets plans is same comes = record {
   plan = x;
   plans = plans;
-  comes = subst (λ (o : List ℕ). Comes room o x zs a new) is comes;
+  comes = subst (λ (o : List ℕ). Comes room o x zs a new) is (subst (λ (ys : List Zone). Comes room response x ys a new) same comes);
 }
 
 -- ---- a message

@@ -1,6 +1,7 @@
 pub mod Tables
 pub mod Planning
 pub mod Journaling
+pub mod Changing
 pub mod Answering
 pub mod Committing
 pub mod Replaying

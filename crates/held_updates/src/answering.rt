@@ -7,7 +7,7 @@ use crate::access::UpdateAccess;
 use crate::planned::{PlannedUpdate, UpdatedZone};
 use crate::requests::plan_update;
 use std::alloc::{AllocError, Global};
-use zone_database::{Zone, ZoneDatabase};
+use zone_database::{NextZone, ZoneDatabase};
 use zone_proto::LowerName;
 
 /// What came of a message.
@@ -83,13 +83,17 @@ fn settle(
 }
 
 /// Puts a zone in place of the one of its origin, or among the others, and gives its origin.
-fn put_zone(alloc: Global, zones: &mut ZoneDatabase, zone: Zone) -> Result<LowerName, AllocError>
+fn put_zone(
+    alloc: Global,
+    zones: &mut ZoneDatabase,
+    zone: NextZone,
+) -> Result<LowerName, AllocError>
     ensures origin { IfOk result (λ origin. origin ≡ zone.origin) }
     ensures put { OnOk result (zones_in zones.new ≡ with_zone zone (zones_in zones.old)) }
     ensures same { OnErr result (zones_in zones.new ≡ zones_in zones.old) }
 {
-    match zone.origin.clone() {
-        Ok(origin) => match zones.put(alloc, zone) {
+    match zone.origin().clone() {
+        Ok(origin) => match zones.put_next(alloc, zone) {
             Ok(()) => Ok(origin),
             Err(_) => Err(AllocError),
         },

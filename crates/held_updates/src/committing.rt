@@ -39,7 +39,7 @@ pub fn commit_update(
         return Ok(Commit::Overtaken);
     }
     let UpdatedZone { zone, .. } = updated;
-    zones.put(alloc, zone)?;
+    zones.put_next(alloc, zone)?;
     Ok(Commit::Done)
 }
 
@@ -47,7 +47,7 @@ pub fn commit_update(
 fn is_current(zones: &ZoneDatabase, updated: &UpdatedZone) -> Result<bool, AllocError>
     ensures { IfOk result (λ is. is ≡ is_current updated.now (zones_in zones.now)) }
 {
-    let serial = serial_of(zones.get(&updated.zone.origin))?;
+    let serial = serial_of(zones.get(updated.zone.origin()))?;
     Ok(same_serial(updated.replaces, serial))
 }
 

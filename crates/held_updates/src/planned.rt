@@ -1,12 +1,12 @@
 //! What is to come of an update, before anything changes.
 
-use zone_database::Zone;
+use zone_database::NextZone;
 
-/// A zone after an update that was carried out beside it.
+/// A zone after an update, beside the one before it.
 #[derive(Drop)]
 pub struct UpdatedZone {
     /// The zone. It is to take the place of the one of its origin.
-    pub zone: Zone,
+    pub zone: NextZone,
     /// The serial of the zone that was updated.
     pub replaces: Option<u32>,
     /// Where journals are kept, the frame that the journal of the zone gets first (`zone_journal`), and else no octets.

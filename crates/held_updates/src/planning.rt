@@ -1,21 +1,25 @@
 //! An update of a zone of a database carried out beside it, and the response to it.
 ghost use Rattle.std.specs.Prelude.{◌≡◌, ◌<◌, Ok, IfOk, OnOk, option_copied};
+ghost use Rattle.std.specs.List.{find};
 ghost use Rattle.update_answers.specs.Replies.{reply_text};
 ghost use Rattle.update_message.specs.Updates.{parts_of, update_of};
-ghost use Rattle.zone_database.specs.Databases.{zones_in};
+ghost use Rattle.update_in_place.specs.Parts.{names_about};
+ghost use Rattle.update_in_place.specs.Plans.{GivesPlan};
+ghost use Rattle.zone_database.specs.Databases.{begins_at, zones_in};
 ghost use Rattle.zone_database.specs.Zones.{zone_of_records};
-ghost use Rattle.zone_update.specs.Entries.{code_of, Gives};
+ghost use Rattle.zone_update.specs.Entries.{code_of};
+ghost use Rattle.held_updates.specs.Changing.{records_in, IsChangeAbout, IsChangeIfAny, RepliesBy, RepliesChanged};
 ghost use Rattle.held_updates.specs.Journaling.{IfUpdated, IsJournaled, IsPlanJournaled};
-ghost use Rattle.held_updates.specs.Planning.{outcome_among, updated_in, Plans, RepliesTo, RepliesWith};
+ghost use Rattle.held_updates.specs.Planning.{outcome_among, updated_in, Plans};
 
 use crate::access::UpdateAccess;
 use crate::fixed_zones::{has_expired, is_signed};
-use crate::journaling::journaled;
+use crate::journaling::changed_zone;
 use crate::planned::{PlannedUpdate, UpdatedZone};
 use message_reading::Header;
 use std::alloc::{AllocError, Global};
+use update_in_place::{Changed, planned_if_permitted};
 use update_message::{OPCODE, UpdateError, UpdateMessage, read_update, write_response};
-use update_permission::updated_if_permitted;
 use update_policy::Rule;
 use zone_database::{Zone, ZoneDatabase, zone_of};
 use zone_journal::EntryFault;
@@ -28,7 +32,7 @@ use zone_update::{Refusal, Update};
 /// of memory.
 pub fn plan_for(
     alloc: Global,
-    zones: &ZoneDatabase,
+    zones: &mut ZoneDatabase,
     access: &UpdateAccess,
     key: Option<&LowerName>,
     is_kept: bool,
@@ -36,9 +40,10 @@ pub fn plan_for(
     out: &mut Vec<u8>,
 ) -> Result<PlannedUpdate, AllocError>
     ensures plan { IfOk result (λ planned. Plans
-        (outcome_among access.now (option_copied key.entry) (zones_in zones.now))
+        (outcome_among access.now (option_copied key.entry) (zones_in zones.old))
         (update_of message.now) planned out.new.items) }
-    ensures journaled { IfOk result (IsPlanJournaled is_kept (zones_in zones.now)) }
+    ensures journaled { IfOk result (IsPlanJournaled is_kept (zones_in zones.old)) }
+    ensures same { zones_in zones.new ≡ zones_in zones.old }
 {
     match read_update(alloc, message) {
         Ok(asked) => plan_asked(alloc, zones, access, key, is_kept, asked, out),
@@ -56,10 +61,9 @@ pub fn plan_for(
 }
 
 /// The same for an update that was read.
-#[tactic(auto, using(crate::proofs::Plans::journaled_in))]
 pub fn plan_asked(
     alloc: Global,
-    zones: &ZoneDatabase,
+    zones: &mut ZoneDatabase,
     access: &UpdateAccess,
     key: Option<&LowerName>,
     is_kept: bool,
@@ -67,9 +71,10 @@ pub fn plan_asked(
     out: &mut Vec<u8>,
 ) -> Result<PlannedUpdate, AllocError>
     ensures plan { IfOk result (λ planned. Plans
-        (outcome_among access.now (option_copied key.entry) (zones_in zones.now))
+        (outcome_among access.now (option_copied key.entry) (zones_in zones.old))
         (Ok (parts_of asked)) planned out.new.items) }
-    ensures journaled { IfOk result (IsPlanJournaled is_kept (zones_in zones.now)) }
+    ensures journaled { IfOk result (IsPlanJournaled is_kept (zones_in zones.old)) }
+    ensures same { zones_in zones.new ≡ zones_in zones.old }
 {
     let UpdateMessage {
         header,
@@ -81,12 +86,12 @@ pub fn plan_asked(
         return Err(AllocError);
     };
     let (zone, rules) = (zones.get(&origin), access.rules_for(&origin));
-    let after = updated_in(alloc, rules, key, &origin, zone, update);
+    let change = change_in(alloc, rules, key, &origin, zone, update);
     let planned = reply(
         alloc,
-        origin,
-        zone,
-        after,
+        zones,
+        &origin,
+        change,
         is_kept,
         header,
         has_extension,
@@ -95,26 +100,39 @@ pub fn plan_asked(
     Ok(planned)
 }
 
-/// Writes the response to an update of the zone of an origin that ended so.
-#[tactic(auto, using(crate::proofs::Plans::replied_with))]
+/// Writes the response to an update that changes the zone of an origin so.
+#[tactic(auto, using(crate::proofs::Changes::asks_change, crate::proofs::Changes::replied_changed))]
 fn reply(
     alloc: Global,
-    origin: LowerName,
-    before: Option<&Zone>,
-    after: Result<Option<RecordMap>, Refusal>,
+    zones: &mut ZoneDatabase,
+    origin: &LowerName,
+    change: Result<Option<Changed>, Refusal>,
     is_kept: bool,
     header: Header,
     has_extension: bool,
     out: &mut Vec<u8>,
 ) -> Result<PlannedUpdate, AllocError>
-    ensures reply { IfOk result (λ planned.
-        RepliesTo after origin header has_extension planned out.new.items) }
-    ensures journaled { IfOk result (IfUpdated (IsJournaled is_kept (option_copied before.entry))) }
+    requires { IsChangeIfAny origin.now
+        (find (begins_at origin.now) (zones_in zones.old)) change }
+    ensures reply { IfOk result (λ planned. RepliesBy
+        (find (begins_at origin.now) (zones_in zones.old)) origin.now change header
+        has_extension planned out.new.items) }
+    ensures journaled { IfOk result (IfUpdated (IsJournaled is_kept
+        (find (begins_at origin.now) (zones_in zones.old)))) }
+    ensures same { zones_in zones.new ≡ zones_in zones.old }
 {
-    match after {
-        Ok(Some(after)) => {
-            let zone = zone_after(alloc, origin, after)?;
-            let planned = reply_with(alloc, before, zone, is_kept, header, has_extension, out)?;
+    match change {
+        Ok(Some(changed)) => {
+            let planned = reply_changed(
+                alloc,
+                zones,
+                origin,
+                changed,
+                is_kept,
+                header,
+                has_extension,
+                out,
+            )?;
             Ok(planned)
         }
         Ok(None) => {
@@ -128,21 +146,27 @@ fn reply(
     }
 }
 
-/// The same where this is the zone after the update. SERVFAIL goes out where a journal can't take it.
-fn reply_with(
+/// The same where this changes. SERVFAIL goes out where a journal can't take it.
+fn reply_changed(
     alloc: Global,
-    before: Option<&Zone>,
-    zone: Zone,
+    zones: &mut ZoneDatabase,
+    origin: &LowerName,
+    changed: Changed,
     is_kept: bool,
     header: Header,
     has_extension: bool,
     out: &mut Vec<u8>,
 ) -> Result<PlannedUpdate, AllocError>
-    ensures reply { IfOk result (λ planned.
-        RepliesWith zone header has_extension planned out.new.items) }
-    ensures journaled { IfOk result (IfUpdated (IsJournaled is_kept (option_copied before.entry))) }
+    requires { IsChangeAbout origin.now
+        (find (begins_at origin.now) (zones_in zones.old)) changed }
+    ensures reply { IfOk result (λ planned. RepliesChanged
+        (find (begins_at origin.now) (zones_in zones.old)) origin.now changed header
+        has_extension planned out.new.items) }
+    ensures journaled { IfOk result (IfUpdated (IsJournaled is_kept
+        (find (begins_at origin.now) (zones_in zones.old)))) }
+    ensures same { zones_in zones.new ≡ zones_in zones.old }
 {
-    match journaled(alloc, is_kept, before, zone) {
+    match changed_zone(alloc, zones, is_kept, origin, changed) {
         Ok(updated) => accept(out, header, has_extension, updated),
         Err(EntryFault::Memory) => Err(AllocError),
         Err(EntryFault::Unreadable | EntryFault::Unwritable) => {
@@ -171,26 +195,26 @@ fn accept(
     }
 }
 
-/// The sets of the zone of an origin after an update, or none where it changes nothing, if there is such a zone, which has neither expired nor is
-/// signed.
-fn updated_in(
+/// What an update changes in the zone of an origin, or nothing, if there is such a zone, which has neither expired nor is signed.
+fn change_in(
     alloc: Global,
     rules: &[Rule],
     key: Option<&LowerName>,
     origin: &LowerName,
     zone: Option<&Zone>,
     update: Update,
-) -> Result<Option<RecordMap>, Refusal>
-    ensures { Gives result
+) -> Result<Option<Changed>, Refusal>
+    ensures { GivesPlan (names_about origin.now update.changes.items)
+        (records_in (option_copied zone.entry))
         (updated_in rules.now (option_copied key.entry) origin.now (option_copied zone.entry)
-        update.prerequisites.items update.changes.items) }
+        update.prerequisites.items update.changes.items) result }
 {
     let Some(zone) = zone else {
         return Err(Refusal::NotAuth);
     };
     match (has_expired(zone), is_signed(zone)) {
         (Ok(false), Ok(false)) => {
-            updated_if_permitted(alloc, rules, key, origin, zone.inner.record_map(), update)
+            planned_if_permitted(alloc, rules, key, origin, zone.inner.record_map(), update)
         }
         (Ok(false), Ok(true)) => Err(Refusal::Refused),
         _ => Err(Refusal::Memory),

@@ -16,8 +16,8 @@ use update_message::OPCODE;
 use zone_database::ZoneDatabase;
 use zone_update::Refusal;
 
-/// Carries out an update beside its zone, one of the zones of a database, for those who have a key of a server and whom its rules permit it, at a
-/// moment in seconds since 1970, and writes the response in place of the octets of `out`. Messages of other kinds are left to
+/// Carries out an update beside its zone, one of the zones of a database, which stay as they are, for those who have a key of a server and whom its
+/// rules permit it, at a moment in seconds since 1970, and writes the response in place of the octets of `out`. Messages of other kinds are left to
 /// `held_transfers::answer_with_keys` and its like.
 ///
 /// Where the TSIG can't be read the response is FORMERR, and where it is refused NOTAUTH with the error: BADKEY, BADSIG, BADTIME or BADTRUNC
@@ -37,7 +37,7 @@ use zone_update::Refusal;
 /// `AllocError` for want of memory; what `out` has is no response then.
 pub fn plan_update(
     alloc: Global,
-    zones: &ZoneDatabase,
+    zones: &mut ZoneDatabase,
     access: &UpdateAccess,
     now: u64,
     is_kept: bool,
@@ -45,8 +45,9 @@ pub fn plan_update(
     out: &mut Vec<u8>,
 ) -> Result<PlannedUpdate, AllocError>
     ensures plan { IfOk result (λ planned. PlansUpdate access.now now message.now
-        (zones_in zones.now) planned out.new.items) }
-    ensures journaled { IfOk result (IsPlanJournaled is_kept (zones_in zones.now)) }
+        (zones_in zones.old) planned out.new.items) }
+    ensures journaled { IfOk result (IsPlanJournaled is_kept (zones_in zones.old)) }
+    ensures same { zones_in zones.new ≡ zones_in zones.old }
 {
     match read_header(message) {
         Some((header, _)) => {
@@ -60,7 +61,7 @@ pub fn plan_update(
 #[tactic(auto, using(crate::proofs::Plans::as_update, crate::proofs::Plans::as_other))]
 fn plan_header(
     alloc: Global,
-    zones: &ZoneDatabase,
+    zones: &mut ZoneDatabase,
     access: &UpdateAccess,
     now: u64,
     is_kept: bool,
@@ -69,8 +70,9 @@ fn plan_header(
     out: &mut Vec<u8>,
 ) -> Result<PlannedUpdate, AllocError>
     ensures plan { IfOk result (λ planned. PlansAs access.now now message.now header
-        (zones_in zones.now) planned out.new.items) }
-    ensures journaled { IfOk result (IsPlanJournaled is_kept (zones_in zones.now)) }
+        (zones_in zones.old) planned out.new.items) }
+    ensures journaled { IfOk result (IsPlanJournaled is_kept (zones_in zones.old)) }
+    ensures same { zones_in zones.new ≡ zones_in zones.old }
 {
     if is_update(header) {
         let planned = plan_signed(alloc, zones, access, now, is_kept, message, header, out)?;
@@ -90,7 +92,7 @@ pub fn is_update(header: Header) -> bool
 /// The same for an update, whose header is this.
 fn plan_signed(
     alloc: Global,
-    zones: &ZoneDatabase,
+    zones: &mut ZoneDatabase,
     access: &UpdateAccess,
     now: u64,
     is_kept: bool,
@@ -100,8 +102,9 @@ fn plan_signed(
 ) -> Result<PlannedUpdate, AllocError>
     ensures plan { IfOk result (λ planned. PlansBy access.now now message.now header
         (checked_of access.now.keys.items now message.now)
-        (zones_in zones.now) planned out.new.items) }
-    ensures journaled { IfOk result (IsPlanJournaled is_kept (zones_in zones.now)) }
+        (zones_in zones.old) planned out.new.items) }
+    ensures journaled { IfOk result (IsPlanJournaled is_kept (zones_in zones.old)) }
+    ensures same { zones_in zones.new ≡ zones_in zones.old }
 {
     match check_request(alloc, access.keys.as_slice(), now, message) {
         Ok(checked) => plan_checked(
@@ -114,7 +117,7 @@ fn plan_signed(
 /// The same by what the TSIG of the update is found to be.
 fn plan_checked(
     alloc: Global,
-    zones: &ZoneDatabase,
+    zones: &mut ZoneDatabase,
     access: &UpdateAccess,
     now: u64,
     is_kept: bool,
@@ -126,8 +129,9 @@ fn plan_checked(
     requires { IsAuthenticIfSigned access.now.keys.items now message.now checked }
     ensures plan { IfOk result (λ planned. PlansBy access.now now message.now header
         (checked_kept checked.entry)
-        (zones_in zones.now) planned out.new.items) }
-    ensures journaled { IfOk result (IsPlanJournaled is_kept (zones_in zones.now)) }
+        (zones_in zones.old) planned out.new.items) }
+    ensures journaled { IfOk result (IsPlanJournaled is_kept (zones_in zones.old)) }
+    ensures same { zones_in zones.new ≡ zones_in zones.old }
 {
     match checked {
         Checked::Unsigned => plan_for(alloc, zones, access, None, is_kept, message, out),
@@ -160,7 +164,7 @@ fn plan_checked(
 #[tactic(auto, using(crate::proofs::Plans::signed))]
 fn plan_authentic(
     alloc: Global,
-    zones: &ZoneDatabase,
+    zones: &mut ZoneDatabase,
     access: &UpdateAccess,
     tsig: &Tsig,
     key: &Key,
@@ -170,8 +174,9 @@ fn plan_authentic(
     out: &mut Vec<u8>,
 ) -> Result<PlannedUpdate, AllocError>
     ensures plan { IfOk result (λ planned. PlansSigned access.now now tsig.now
-        key.now message.now (zones_in zones.now) planned out.new.items) }
-    ensures journaled { IfOk result (IsPlanJournaled is_kept (zones_in zones.now)) }
+        key.now message.now (zones_in zones.old) planned out.new.items) }
+    ensures journaled { IfOk result (IsPlanJournaled is_kept (zones_in zones.old)) }
+    ensures same { zones_in zones.new ≡ zones_in zones.old }
 {
     let planned = plan_for(alloc, zones, access, Some(&key.name), is_kept, message, out)?;
     sign_response(alloc, tsig, key, now, out)?;

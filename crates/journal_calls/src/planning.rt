@@ -1,5 +1,5 @@
 //! Updates that are planned in the zones that are kept, and those that are committed.
-ghost use Rattle.std.specs.Prelude.{◌≡◌, [], None, Some};
+ghost use Rattle.std.specs.Prelude.{◌≡◌, [], None, Some, option_map};
 ghost use Rattle.std.specs.Bool.{MatchBool};
 ghost use Rattle.zone_database.specs.Databases.{zones_in};
 ghost use Rattle.journal_calls.specs.Plans.{plan_told, AreGiven, AreTooLong, CommitsHeld, CommitsZones, GivesPlan, PlansByAccess, PlansHeld, PlansZones, TellsPlan, room};
@@ -36,18 +36,19 @@ pub fn begin(
     ensures plan { PlansHeld updates.old.held message.now zones.old.held
         (plan_told result written.new buffer.old buffer.new frame_written.new frame.old frame.new)
         plan.new.held }
-    ensures zones { zones.new.held ≡ zones.old.held }
+    ensures zones { option_map zones_in zones.new.held
+        ≡ option_map zones_in zones.old.held }
     ensures updates { updates.new.held ≡ updates.old.held }
 {
     free(alloc, plan);
     *written = 0;
     *frame_written = 0;
     match zones.take(alloc) {
-        Some(database) => {
+        Some(mut database) => {
             let outcome = begin_in(
                 alloc,
                 plan,
-                &database,
+                &mut database,
                 updates,
                 message,
                 buffer,
@@ -67,7 +68,7 @@ pub fn begin(
 fn begin_in(
     alloc: Global,
     plan: &mut PlannedHandle,
-    database: &ZoneDatabase,
+    database: &mut ZoneDatabase,
     updates: &mut UpdatesHandle,
     message: &ClientMessage<'_>,
     buffer: &mut [u8],
@@ -78,10 +79,11 @@ fn begin_in(
     requires plan { plan.old.held ≡ None }
     requires written { written.old ≡ 0 }
     requires frame_written { frame_written.old ≡ 0 }
-    ensures plan { PlansByAccess updates.old.held message.now (zones_in database.now)
+    ensures plan { PlansByAccess updates.old.held message.now (zones_in database.old)
         (plan_told result written.new buffer.old buffer.new frame_written.new frame.old frame.new)
         plan.new.held }
     ensures updates { updates.new.held ≡ updates.old.held }
+    ensures same { zones_in database.new ≡ zones_in database.old }
 {
     match updates.take(alloc) {
         Some(held) => {
@@ -108,7 +110,7 @@ fn begin_in(
 fn begin_by(
     alloc: Global,
     plan: &mut PlannedHandle,
-    database: &ZoneDatabase,
+    database: &mut ZoneDatabase,
     access: &UpdateAccess,
     message: &ClientMessage<'_>,
     buffer: &mut [u8],
@@ -119,9 +121,10 @@ fn begin_by(
     requires plan { plan.old.held ≡ None }
     requires written { written.old ≡ 0 }
     requires frame_written { frame_written.old ≡ 0 }
-    ensures { PlansZones access.now message.now (zones_in database.now)
+    ensures plan { PlansZones access.now message.now (zones_in database.old)
         (plan_told result written.new buffer.old buffer.new frame_written.new frame.old frame.new)
         plan.new.held }
+    ensures same { zones_in database.new ≡ zones_in database.old }
 {
     let mut out = Vec::new(alloc);
     match plan_update(

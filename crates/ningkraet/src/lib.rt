@@ -3,10 +3,11 @@
 //! `file_calls` or `text_calls`. C passes no allocator; to C a slice is a pointer and a length, and a `&mut` a pointer.
 #![tactic(auto)]
 
-ghost use Rattle.std.specs.Prelude.{◌≡◌, ◌≤◌, [], None, Some, length, take};
+ghost use Rattle.std.specs.Prelude.{◌≡◌, ◌≤◌, [], None, Some, length, option_map, take};
 ghost use Rattle.journal_frames.specs.Journals.{whole};
 ghost use Rattle.arrival_calls.specs.ArrivalCalls.{AnswersClient};
 ghost use Rattle.zone_database.specs.Calls.{transport_of, AnswersHeld, AsksHeld, ChangesHeld, IsAdded, IsCreated, IsDropped, IsLoaded, IsPrepared, IsSerial, IsReported};
+ghost use Rattle.zone_database.specs.Databases.{zones_in};
 ghost use Rattle.zone_database.specs.Outcomes.{code_of, Codes};
 ghost use Rattle.transfer_calls.specs.Accesses.{AllowsHeld, ReadsAccess};
 ghost use Rattle.transfer_calls.specs.Outcomes.{Codes as TransferCodes};
@@ -409,7 +410,8 @@ pub extern "C" fn nk_update_begin(
         PlansHeld updates.old.held message.now zones.old.held
         (plan_told o written.new buffer.old buffer.new frame_written.new frame.old frame.new)
         update.new.held) }
-    ensures zones { zones.new.held ≡ zones.old.held }
+    ensures zones { option_map zones_in zones.new.held
+        ≡ option_map zones_in zones.old.held }
     ensures updates { updates.new.held ≡ updates.old.held }
 {
     journal_calls::begin(

@@ -1,5 +1,6 @@
 //! Updates of signed zones, each export by one call of `signed_calls`.
-ghost use Rattle.std.specs.Prelude.{◌≡◌, None};
+ghost use Rattle.std.specs.Prelude.{◌≡◌, None, option_map};
+ghost use Rattle.zone_database.specs.Databases.{zones_in};
 ghost use Rattle.journal_calls.specs.Plans.{room};
 ghost use Rattle.plan_calls.specs.Outcomes.{Codes};
 ghost use Rattle.signed_calls.specs.Outcomes.{Codes as PrepareCodes};
@@ -35,7 +36,8 @@ pub extern "C" fn nk_update_prepare(
         PreparesHeld updates.old.held message.now zone.now how.now zones.old.held end
         (rooms written.new buffer.old buffer.new frame_written.new frame.old frame.new)
         update.new.held plan.new.held) }
-    ensures zones { zones.new.held ≡ zones.old.held }
+    ensures zones { option_map zones_in zones.new.held
+        ≡ option_map zones_in zones.old.held }
     ensures updates { updates.new.held ≡ updates.old.held }
 {
     signed_calls::prepare(

@@ -1,5 +1,5 @@
 //! Updates that are prepared in the zones that are kept, of which one is signed.
-ghost use Rattle.std.specs.Prelude.{◌≡◌, [], None};
+ghost use Rattle.std.specs.Prelude.{◌≡◌, [], None, option_map};
 ghost use Rattle.zone_database.specs.Databases.{zones_in};
 ghost use Rattle.held_plans.specs.Holding.{made_plan};
 ghost use Rattle.signed_calls.specs.Preparing.{GivesSigning, PreparesByAccess, PreparesGiven, PreparesHeld, PreparesZones, rooms, TellsReply, TellsSigned};
@@ -48,7 +48,8 @@ pub fn prepare(
         result
         (rooms written.new buffer.old buffer.new frame_written.new frame.old frame.new)
         update.new.held plan.new.held }
-    ensures zones { zones.new.held ≡ zones.old.held }
+    ensures zones { option_map zones_in zones.new.held
+        ≡ option_map zones_in zones.old.held }
     ensures updates { updates.new.held ≡ updates.old.held }
 {
     journal_calls::free(alloc, update);
@@ -56,12 +57,12 @@ pub fn prepare(
     *written = 0;
     *frame_written = 0;
     match zones.take(alloc) {
-        Some(database) => {
+        Some(mut database) => {
             let outcome = prepare_in(
                 alloc,
                 update,
                 plan,
-                &database,
+                &mut database,
                 updates,
                 message,
                 zone,
@@ -84,7 +85,7 @@ fn prepare_in(
     alloc: Global,
     update: &mut PlannedHandle,
     plan: &mut PlanHandle,
-    database: &ZoneDatabase,
+    database: &mut ZoneDatabase,
     updates: &mut UpdatesHandle,
     message: &ClientMessage<'_>,
     zone: &SignedZone<'_>,
@@ -99,10 +100,11 @@ fn prepare_in(
     requires written { written.old ≡ 0 }
     requires frame_written { frame_written.old ≡ 0 }
     ensures prepared { PreparesByAccess updates.old.held message.now zone.now how.now
-        (zones_in database.now) result
+        (zones_in database.old) result
         (rooms written.new buffer.old buffer.new frame_written.new frame.old frame.new)
         update.new.held plan.new.held }
     ensures updates { updates.new.held ≡ updates.old.held }
+    ensures same { zones_in database.new ≡ zones_in database.old }
 {
     match updates.take(alloc) {
         Some(held) => {
@@ -133,7 +135,7 @@ fn prepare_by(
     alloc: Global,
     update: &mut PlannedHandle,
     plan: &mut PlanHandle,
-    database: &ZoneDatabase,
+    database: &mut ZoneDatabase,
     access: &UpdateAccess,
     message: &ClientMessage<'_>,
     zone: &SignedZone<'_>,
@@ -147,9 +149,11 @@ fn prepare_by(
     requires plan { plan.old.held ≡ None }
     requires written { written.old ≡ 0 }
     requires frame_written { frame_written.old ≡ 0 }
-    ensures { PreparesGiven access.now message.now zone.now how.now (zones_in database.now) result
+    ensures prepared { PreparesGiven access.now message.now zone.now how.now
+        (zones_in database.old) result
         (rooms written.new buffer.old buffer.new frame_written.new frame.old frame.new)
         update.new.held plan.new.held }
+    ensures same { zones_in database.new ≡ zones_in database.old }
 {
     match given(alloc, zone, how) {
         Ok(given) => prepare_given(
@@ -175,7 +179,7 @@ fn prepare_given(
     alloc: Global,
     update: &mut PlannedHandle,
     plan: &mut PlanHandle,
-    database: &ZoneDatabase,
+    database: &mut ZoneDatabase,
     access: &UpdateAccess,
     message: &ClientMessage<'_>,
     given: GivenZone,
@@ -188,10 +192,11 @@ fn prepare_given(
     requires plan { plan.old.held ≡ None }
     requires written { written.old ≡ 0 }
     requires frame_written { frame_written.old ≡ 0 }
-    ensures { PreparesZones access.now given.origin given.signing message.now
-        (zones_in database.now) result
+    ensures prepared { PreparesZones access.now given.origin given.signing message.now
+        (zones_in database.old) result
         (rooms written.new buffer.old buffer.new frame_written.new frame.old frame.new)
         update.new.held plan.new.held }
+    ensures same { zones_in database.new ≡ zones_in database.old }
 {
     let GivenZone { origin, signing } = given;
     let mut out = Vec::new(alloc);

@@ -42,7 +42,7 @@ pub enum SignedPlan {
 /// `AllocError` for want of memory; what `out` has is no response then.
 pub fn begin_signed_update(
     alloc: Global,
-    zones: &ZoneDatabase,
+    zones: &mut ZoneDatabase,
     access: &UpdateAccess,
     origin: &LowerName,
     signing: Signing,
@@ -52,9 +52,10 @@ pub fn begin_signed_update(
     out: &mut Vec<u8>,
 ) -> Result<SignedPlan, AllocError>
     ensures plan { IfOk result (λ plan. Begins access.now origin.now signing now message.now
-        (zones_in zones.now) plan out.new.items) }
+        (zones_in zones.old) plan out.new.items) }
     ensures journaled { IfOk result
-        (IfPlanned (IsPlanJournaled is_kept (zones_in zones.now))) }
+        (IfPlanned (IsPlanJournaled is_kept (zones_in zones.old))) }
+    ensures same { zones_in zones.new ≡ zones_in zones.old }
 {
     match read_header(message) {
         Some((header, _)) => begin_header(
@@ -68,7 +69,7 @@ pub fn begin_signed_update(
 #[tactic(auto, using(crate::proofs::Beginnings::as_update, crate::proofs::Beginnings::as_other))]
 fn begin_header(
     alloc: Global,
-    zones: &ZoneDatabase,
+    zones: &mut ZoneDatabase,
     access: &UpdateAccess,
     origin: &LowerName,
     signing: Signing,
@@ -79,9 +80,10 @@ fn begin_header(
     out: &mut Vec<u8>,
 ) -> Result<SignedPlan, AllocError>
     ensures plan { IfOk result (λ plan. BeginsAs access.now origin.now signing now message.now
-        header (zones_in zones.now) plan out.new.items) }
+        header (zones_in zones.old) plan out.new.items) }
     ensures journaled { IfOk result
-        (IfPlanned (IsPlanJournaled is_kept (zones_in zones.now))) }
+        (IfPlanned (IsPlanJournaled is_kept (zones_in zones.old))) }
+    ensures same { zones_in zones.new ≡ zones_in zones.old }
 {
     if is_update(header) {
         let plan = begin_checked(
@@ -96,7 +98,7 @@ fn begin_header(
 /// The same for an update, by its TSIG.
 fn begin_checked(
     alloc: Global,
-    zones: &ZoneDatabase,
+    zones: &mut ZoneDatabase,
     access: &UpdateAccess,
     origin: &LowerName,
     signing: Signing,
@@ -107,9 +109,10 @@ fn begin_checked(
 ) -> Result<SignedPlan, AllocError>
     ensures plan { IfOk result (λ plan. BeginsBy access.now origin.now signing now message.now
         (checked_of access.now.keys.items now message.now)
-        (zones_in zones.now) plan out.new.items) }
+        (zones_in zones.old) plan out.new.items) }
     ensures journaled { IfOk result
-        (IfPlanned (IsPlanJournaled is_kept (zones_in zones.now))) }
+        (IfPlanned (IsPlanJournaled is_kept (zones_in zones.old))) }
+    ensures same { zones_in zones.new ≡ zones_in zones.old }
 {
     match check_request(alloc, access.keys.as_slice(), now, message) {
         Ok(checked) => by_checked(
@@ -122,7 +125,7 @@ fn begin_checked(
 /// The same by what the TSIG of the update is found to be.
 fn by_checked(
     alloc: Global,
-    zones: &ZoneDatabase,
+    zones: &mut ZoneDatabase,
     access: &UpdateAccess,
     origin: &LowerName,
     signing: Signing,
@@ -135,9 +138,10 @@ fn by_checked(
     requires { IsAuthenticIfSigned access.now.keys.items now message.now checked }
     ensures plan { IfOk result (λ plan. BeginsBy access.now origin.now signing now message.now
         (checked_kept checked.entry)
-        (zones_in zones.now) plan out.new.items) }
+        (zones_in zones.old) plan out.new.items) }
     ensures journaled { IfOk result
-        (IfPlanned (IsPlanJournaled is_kept (zones_in zones.now))) }
+        (IfPlanned (IsPlanJournaled is_kept (zones_in zones.old))) }
+    ensures same { zones_in zones.new ≡ zones_in zones.old }
 {
     match checked {
         Checked::Unsigned => refused_plan(alloc, zones, access, now, is_kept, message, out),
@@ -165,7 +169,7 @@ fn by_checked(
 /// What is planned of an update without a right TSIG, whatever zone it is of.
 fn refused_plan(
     alloc: Global,
-    zones: &ZoneDatabase,
+    zones: &mut ZoneDatabase,
     access: &UpdateAccess,
     now: u64,
     is_kept: bool,
@@ -173,9 +177,10 @@ fn refused_plan(
     out: &mut Vec<u8>,
 ) -> Result<SignedPlan, AllocError>
     ensures plan { IfOk result (λ plan. IsPlanned
-        (PlansUpdate access.now now message.now (zones_in zones.now)) plan out.new.items) }
+        (PlansUpdate access.now now message.now (zones_in zones.old)) plan out.new.items) }
     ensures journaled { IfOk result
-        (IfPlanned (IsPlanJournaled is_kept (zones_in zones.now))) }
+        (IfPlanned (IsPlanJournaled is_kept (zones_in zones.old))) }
+    ensures same { zones_in zones.new ≡ zones_in zones.old }
 {
     let planned = plan_update(alloc, zones, access, now, is_kept, message, out)?;
     Ok(SignedPlan::Planned(planned))
@@ -185,7 +190,7 @@ fn refused_plan(
 #[tactic(auto, using(crate::proofs::Beginnings::of_authentic))]
 fn begin_authentic(
     alloc: Global,
-    zones: &ZoneDatabase,
+    zones: &mut ZoneDatabase,
     access: &UpdateAccess,
     origin: &LowerName,
     signing: Signing,
@@ -197,9 +202,10 @@ fn begin_authentic(
     out: &mut Vec<u8>,
 ) -> Result<SignedPlan, AllocError>
     ensures plan { IfOk result (λ plan. BeginsSigned access.now origin.now signing now tsig.now
-        key.now message.now (zones_in zones.now) plan out.new.items) }
+        key.now message.now (zones_in zones.old) plan out.new.items) }
     ensures journaled { IfOk result
-        (IfPlanned (IsPlanJournaled is_kept (zones_in zones.now))) }
+        (IfPlanned (IsPlanJournaled is_kept (zones_in zones.old))) }
+    ensures same { zones_in zones.new ≡ zones_in zones.old }
 {
     let plan = read_plan(
         alloc, zones, access, &key.name, origin, signing, is_kept, message, out,
@@ -212,7 +218,7 @@ fn begin_authentic(
 #[tactic(auto, using(crate::proofs::Beginnings::of_unread))]
 fn read_plan(
     alloc: Global,
-    zones: &ZoneDatabase,
+    zones: &mut ZoneDatabase,
     access: &UpdateAccess,
     key: &LowerName,
     origin: &LowerName,
@@ -222,9 +228,10 @@ fn read_plan(
     out: &mut Vec<u8>,
 ) -> Result<SignedPlan, AllocError>
     ensures plan { IfOk result (λ plan. PlansRead access.now (Some key.now) origin.now signing
-        (zones_in zones.now) (update_of message.now) plan out.new.items) }
+        (zones_in zones.old) (update_of message.now) plan out.new.items) }
     ensures journaled { IfOk result
-        (IfPlanned (IsPlanJournaled is_kept (zones_in zones.now))) }
+        (IfPlanned (IsPlanJournaled is_kept (zones_in zones.old))) }
+    ensures same { zones_in zones.new ≡ zones_in zones.old }
 {
     match read_update(alloc, message) {
         Ok(asked) => {
@@ -249,7 +256,7 @@ fn read_plan(
 /// What is planned for the owner of a key of a message that asks for no update of a zone, or of another.
 fn other_plan(
     alloc: Global,
-    zones: &ZoneDatabase,
+    zones: &mut ZoneDatabase,
     access: &UpdateAccess,
     key: &LowerName,
     is_kept: bool,
@@ -257,10 +264,11 @@ fn other_plan(
     out: &mut Vec<u8>,
 ) -> Result<SignedPlan, AllocError>
     ensures plan { IfOk result (λ plan. IsPlanned
-        (Plans (outcome_among access.now (Some key.now) (zones_in zones.now))
+        (Plans (outcome_among access.now (Some key.now) (zones_in zones.old))
         (update_of message.now)) plan out.new.items) }
     ensures journaled { IfOk result
-        (IfPlanned (IsPlanJournaled is_kept (zones_in zones.now))) }
+        (IfPlanned (IsPlanJournaled is_kept (zones_in zones.old))) }
+    ensures same { zones_in zones.new ≡ zones_in zones.old }
 {
     let planned = plan_for(alloc, zones, access, Some(key), is_kept, message, out)?;
     Ok(SignedPlan::Planned(planned))
@@ -270,7 +278,7 @@ fn other_plan(
 #[tactic(auto, using(crate::proofs::Beginnings::of_signed, crate::proofs::Beginnings::of_other))]
 fn asked_plan(
     alloc: Global,
-    zones: &ZoneDatabase,
+    zones: &mut ZoneDatabase,
     access: &UpdateAccess,
     key: &LowerName,
     origin: &LowerName,
@@ -280,9 +288,10 @@ fn asked_plan(
     out: &mut Vec<u8>,
 ) -> Result<SignedPlan, AllocError>
     ensures plan { IfOk result (λ plan. PlansRead access.now (Some key.now) origin.now signing
-        (zones_in zones.now) (Ok (parts_of asked)) plan out.new.items) }
+        (zones_in zones.old) (Ok (parts_of asked)) plan out.new.items) }
     ensures journaled { IfOk result
-        (IfPlanned (IsPlanJournaled is_kept (zones_in zones.now))) }
+        (IfPlanned (IsPlanJournaled is_kept (zones_in zones.old))) }
+    ensures same { zones_in zones.new ≡ zones_in zones.old }
 {
     let Ok(name) = LowerName::new(&asked.zone) else {
         return Err(AllocError);

@@ -36,7 +36,7 @@ pub fn prepare_told(
     let signing = signing(alloc)?;
     let mut out = Vec::new(alloc);
     let octets = message.as_slice();
-    let (zones, access) = (&server.zones, &server.updates);
+    let (zones, access) = (&mut server.zones, &server.updates);
     let plan = begin_signed_update(
         alloc, zones, access, &origin, signing, now, true, octets, &mut out,
     )?;

@@ -106,7 +106,7 @@ pub fn plan_told(
     words.end()?;
     let mut out = Vec::new(alloc);
     let octets = message.as_slice();
-    let (zones, access) = (&server.zones, &server.updates);
+    let (zones, access) = (&mut server.zones, &server.updates);
     let planned = plan_update(alloc, zones, access, now, true, octets, &mut out)?;
     planned_text(alloc, server, planned, out.as_slice())
 }
@@ -124,7 +124,7 @@ pub fn planned_text(
         PlannedUpdate::Refused => format!(in alloc; "refused {octets}")?,
         PlannedUpdate::Unchanged => format!(in alloc; "unchanged {octets}")?,
         PlannedUpdate::Updated(updated) => {
-            let told = format!(in alloc; "{} {octets}", updated.zone.origin)?;
+            let told = format!(in alloc; "{} {octets}", updated.zone.origin())?;
             server.planned = Some(updated);
             told
         }

@@ -1,5 +1,5 @@
 -- What comes of a message
-use Rattle.std.proofs.Common.{inl, inr, ℕ, true, List, [], refl}
+use Rattle.std.proofs.Common.{◌≡◌, inl, inr, ℕ, true, List, [], refl, ap, subst}
 use Rattle.std.specs.Prelude.{OnErr, OnOk, Option, Result, Ok, Err}
 use Rattle.std.specs.Io.KnownBytes.{Appends}
 use Rattle.zone_server.specs.declared.waiting.Stop.{Stop}
@@ -8,6 +8,7 @@ use Rattle.zone_server.specs.Stopping.{MovesFront}
 use Rattle.zone_server.proofs.WrittenFronts.{none_front, on_err_from}
 use Rattle.served_frames.specs.Serving.{Writes}
 use Rattle.served_frames.specs.Stopping.{Stops}
+use Rattle.zone_database.specs.declared.zone.Zone.{Zone}
 use Rattle.keyed_frames.specs.Serving.{AnswersByKeys}
 use Rattle.keyed_frames.specs.Stopping.{BeginsByKeys}
 use Rattle.keyed_frames.specs.Stopping as keyed
@@ -16,7 +17,7 @@ use Rattle.held_updates.specs.Planning.{PlansUpdate}
 use Rattle.held_updates.specs.declared.planned.PlannedUpdate.{PlannedUpdate}
 use Rattle.held_updates.specs.declared.planned.PlannedUpdate.TheVariants as planned
 use Rattle.updating_frames.specs.Turns.{Answers, Begins, Comes, IsBegun, State}
-use Rattle.updating_frames.proofs.Grown.{stays}
+use Rattle.updating_frames.proofs.Grown.{grows_by_none, stays}
 
 module _ (f : Framed) (s : State) (octets : List ℕ) (v w : Option (List ℕ)) (r : Result (Unit {0}) Stop) where
   -- by keys
@@ -53,25 +54,35 @@ module _ (f : Framed) (s : State) (octets : List ℕ) (v w : Option (List ℕ)) 
       on_err_from r (MovesFront (framed octets) v w) (Stops (IsBegun f planned.Unchanged octets s s) v w)
       (λ x. record { text = framed octets; is = (refl, stays s); front = x }) h
 
--- at a moment
-module _ (f : Framed) (old new : State) (now : ℕ) (plan : PlannedUpdate) (octets : List ℕ) (v w : Option (List ℕ)) (r : Result (Unit {0}) Stop)
+-- At a moment. Between what is planned of a message and what comes of it the zones are as they were.
+module _ (f : Framed) (old new : State) (zs : List Zone) (same : zs ≡ old.zones) (now : ℕ) (plan : PlannedUpdate) (octets : List ℕ) (v w : Option (List ℕ)) (r : Result (Unit {0}) Stop)
     (plans : PlansUpdate old.updates now f.message old.zones plan octets) (journaled : IsPlanJournaled true old.zones plan) where
-  pub answered : OnOk r (Writes (Comes f plan octets old new) v w) → OnOk r (Writes (Answers f old new) v w)
-  answered h = by r h
+  abbrev mid : State
+  mid = record old { zones = zs }
+
+  back : mid ≡ old
+  back = ap (λ (ys : List Zone). record old { zones = ys }) same
+
+  pub answered : OnOk r (Writes (Comes f plan octets mid new) v w) → OnOk r (Writes (Answers f old new) v w)
+  answered h = by r (subst (λ (s : State). OnOk r (Writes (Comes f plan octets s new) v w)) back h)
     where
       by : (r : Result (Unit {0}) Stop) → OnOk r (Writes (Comes f plan octets old new) v w) → OnOk r (Writes (Answers f old new) v w)
       by (Ok d) (text, is, a) = (text, record { moment = now; plan = plan; octets = octets; plans = plans; journaled = journaled; comes = is }, a)
       by (Err e) a = tt
 
-  pub begun : OnErr r (Stops (IsBegun f plan octets old new) v w) → OnErr r (Stops (Begins f old new) v w)
+  pub begun : OnErr r (Stops (IsBegun f plan octets mid new) v w) → OnErr r (Stops (Begins f old new) v w)
   begun h =
       on_err_from r (Stops (IsBegun f plan octets old new) v w) (Stops (Begins f old new) v w)
       (λ x. record {
         text = x.text;
         is = inr (record { moment = now; plan = plan; octets = octets; plans = plans; journaled = journaled; begun = x.is });
         front = x.front;
-      }) h
+      }) (subst (λ (s : State). OnErr r (Stops (IsBegun f plan octets s new) v w)) back h)
 
 -- nothing was done yet
-pub not_begun : (f : Framed) (s : State) (v : Option (List ℕ)) → Stops (Begins f s s) v v
-not_begun f s v = record { text = []; is = inl (refl, stays s); front = none_front [] v }
+pub not_begun : (f : Framed) (s : State) (zs : List Zone) (v : Option (List ℕ)) → zs ≡ s.zones → Stops (Begins f s (record s { zones = zs })) v v
+not_begun f s zs v same = record {
+  text = [];
+  is = inl (refl, record { access = refl; updates = refl; zones = same; entries = grows_by_none s.entries });
+  front = none_front [] v;
+}

@@ -4,7 +4,7 @@ use Rattle.std.specs.Prelude.{Option, Some, None}
 use Rattle.updating_frames.specs.Journals.{Entry, Grows}
 use Rattle.updating_frames.specs.Turns.{State, Stays}
 
-grows_by_none : (es : Option (List Entry)) → Grows es es []
+pub grows_by_none : (es : Option (List Entry)) → Grows es es []
 grows_by_none None = tt
 grows_by_none (Some xs) = sym (append-nil xs)
 

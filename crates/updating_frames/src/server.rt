@@ -73,7 +73,7 @@ impl<C: Clock, J: Journals> Answerer for UpdatingServer<C, J> {
         let mut out = Vec::new(self.alloc);
         match plan_update(
             self.alloc,
-            &self.zones,
+            &mut self.zones,
             &self.updates,
             now,
             true,
@@ -179,7 +179,7 @@ fn serve_updated<C: Clock, J: Journals, W: Write>(
 {
     if !server
         .journals
-        .append(&updated.zone.origin, updated.frame.as_slice())
+        .append(updated.zone.origin(), updated.frame.as_slice())
     {
         drop(updated);
         return Err(Stop::Write(ErrorKind::Other));

@@ -9,4 +9,4 @@ returns-in-Some-clause-prepared c =
     by_access
     (rooms c.prepare_by-outcome.new.written c.args.buffer.now c.prepare_by-outcome.new.buffer c.prepare_by-outcome.new.frame_written c.args.frame.now c.prepare_by-outcome.new.frame)
     c.prepare_by-outcome.new.update.held c.prepare_by-outcome.new.plan.held c.args.message.now c.args.zone.now c.args.how.now c.prepare_by-outcome.result
-    c.args.updates.now.held c.deref.result.now (zones_in c.args.database.now) (search (rules, c.in-Some.ensures.taken, c.deref.ensures)) c.prepare_by-outcome.ensures
+    c.args.updates.now.held c.deref.result.now (zones_in c.args.database.now) (search (rules, c.in-Some.ensures.taken, c.deref.ensures)) c.prepare_by-outcome.ensures.prepared
