@@ -7,4 +7,4 @@ mod NamesFrom
 mod NearestRead
 mod Pushed
 mod MadeSets
-mod Changes
+pub mod Changes

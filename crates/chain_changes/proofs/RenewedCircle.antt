@@ -9,8 +9,7 @@ use Rattle.zone_map.specs.Zones.{Sets, set_at, owns}
 use Rattle.zone_denial.specs.Authority.{is_authoritative}
 use Rattle.zone_denial.specs.NsecSets.{nsec_set, nsec_set_at}
 use Rattle.zone_denial.proofs.Chain.NsecSecured.{secured_is_circle}
-use Rattle.update_in_place.specs.Parts.{is_among}
-use Rattle.chain_changes.specs.Renewal.{nsec_records, renewed, HaveChanges, IsRenewed}
+use Rattle.chain_changes.specs.Renewal.{nsec_records, is_renewed, HaveChanges, IsRenewed}
 use Rattle.chain_changes.specs.RenewalLaws.{RenewedIsCircle}
 use Rattle.chain_changes.proofs.OthersStay.{others_stay}
 
@@ -35,9 +34,9 @@ module _ (change : RRset → RRset) (origin : Name) (m after put : Sets) (keys :
       by false = refl
 
   pub all_made : (n : Name) → nsec_records put n ≡ option_map (λ (s : RRset). s.records) (option_map change (nsec_set_at origin after ttl serial n NSEC))
-  all_made n = by (is_among (renewed origin after keys) n) refl
+  all_made n = by (is_renewed origin after keys n) refl
     where
-      by : (b : Bool) → is_among (renewed origin after keys) n ≡ b → nsec_records put n ≡ option_map (λ (s : RRset). s.records) (option_map change (nsec_set_at origin after ttl serial n NSEC))
+      by : (b : Bool) → is_renewed origin after keys n ≡ b → nsec_records put n ≡ option_map (λ (s : RRset). s.records) (option_map change (nsec_set_at origin after ttl serial n NSEC))
       by true e = is.anew n e
       by false e =
           is.kept n e

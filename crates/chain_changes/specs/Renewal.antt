@@ -1,10 +1,11 @@
--- The names whose NSEC sets a change of a zone makes anew
-use Rattle.std.specs.Prelude.{◌≡◌, ℕ, Bool, ◌&&◌, ◌==◌, if◌then◌else◌, List, [], ◌∷◌, filter, flat_map, Option, option_map, option_to_list}
+-- Which names' NSEC sets a change of a zone makes anew
+use Rattle.std.specs.Prelude.{◌≡◌, ℕ, Bool, false, ◌&&◌, ◌||◌, ◌==◌, List, filter, Option, option_map}
 use Rattle.std.specs.List.{list_any}
+use Rattle.std.specs.Option.{option_map_or}
 use Rattle.zone_proto.specs.declared.record.Record.{Record}
 use Rattle.zone_proto.specs.declared.rr_key.RrKey.{RrKey}
 use Rattle.zone_proto.specs.Keys.{key, key_eq}
-use Rattle.zone_proto.specs.Names.{Name, name_cmp, is_above, is_at_or_above, proper_ancestors}
+use Rattle.zone_proto.specs.Names.{Name, name_cmp, name_eq, is_above, is_at_or_above, proper_ancestors}
 use Rattle.zone_proto.specs.Order.{is_before, greatest, least}
 use Rattle.zone_proto.specs.Sets.{RRset}
 use Rattle.zone_proto.specs.Types.{NS, NSEC}
@@ -18,28 +19,25 @@ use Rattle.update_in_place.specs.Parts.{is_among}
 abbrev pub is_cut_key : Name → RrKey → Bool
 is_cut_key origin k = (k.record_type.0 == NS) && is_above origin k.name
 
--- the names that a set that comes or goes under a key touches: its owner, and where it makes a zone cut the names below that too
-abbrev pub touched_by : Name → Sets → RrKey → List Name
-touched_by origin m k = k.name ∷ (if is_cut_key origin k then filter (is_at_or_above k.name) (names_of m) else [])
-
-abbrev pub touched : Name → Sets → List RrKey → List Name
-touched origin m keys = flat_map (touched_by origin m) keys
+-- a set that comes or goes under a key touches a name: its owner, and where it makes a zone cut each name at or below that too that owns sets
+abbrev pub is_touched_by : Name → Sets → RrKey → Name → Bool
+is_touched_by origin m k n = name_eq n k.name || (is_cut_key origin k && (is_at_or_above k.name n && is_among (names_of m) n))
 
 -- the nearest name before n that has an NSEC set and is to have one
 abbrev pub nearest_before : Name → Sets → Name → Option Name
 nearest_before origin m n = greatest name_cmp (filter (is_authoritative origin m NSEC) (denial_owners_before m NSEC n))
 
--- a name and the nearest one before it
-abbrev pub with_nearest : Name → Sets → Name → List Name
-with_nearest origin m n = n ∷ option_to_list (nearest_before origin m n)
+-- a set that comes or goes under a key touches a name, or this is the nearest one before the set's owner
+abbrev pub is_renewed_by : Name → Sets → RrKey → Name → Bool
+is_renewed_by origin m k n = is_touched_by origin m k n || option_map_or (name_eq n) (nearest_before origin m k.name) false
 
--- the names whose NSEC sets are made anew in a zone in which sets came or went under these keys
-abbrev pub renewed : Name → Sets → List RrKey → List Name
-renewed origin m keys = flat_map (with_nearest origin m) (touched origin m keys)
+-- the NSEC set of a name is made anew in a zone in which sets came or went under these keys
+abbrev pub is_renewed : Name → Sets → List RrKey → Name → Bool
+is_renewed origin m keys n = list_any (λ k. is_renewed_by origin m k n) keys
 
 -- under each other key both zones have a set or none has, NSEC aside
 abbrev pub HaveChanges : List RrKey → Sets → Sets → Type 0
-HaveChanges keys m after = (n : Name) (t : ℕ) → (t == NSEC) ≡ Bool.false → list_any (key_eq (key n t)) keys ≡ Bool.false → owns after n t ≡ owns m n t
+HaveChanges keys m after = (n : Name) (t : ℕ) → (t == NSEC) ≡ false → list_any (key_eq (key n t)) keys ≡ false → owns after n t ≡ owns m n t
 
 -- the records of the NSEC set of a name, if it has one
 abbrev pub nsec_records : Sets → Name → Option (List Record)
@@ -47,9 +45,9 @@ nsec_records m n = option_map (λ (s : RRset). s.records) (set_at m n NSEC)
 
 -- a zone whose NSEC sets are renewed so, signatures aside: `made` tells those of the names that are renewed
 pub record IsRenewed (origin : Name) (keys : List RrKey) (after : Sets) (made : Name → ℕ → Option RRset) (put : Sets) : Type 0 where
-  pub others : (n : Name) (t : ℕ) → (t == NSEC) ≡ Bool.false → owns put n t ≡ owns after n t
-  pub anew : (n : Name) → is_among (renewed origin after keys) n ≡ Bool.true → nsec_records put n ≡ option_map (λ (s : RRset). s.records) (made n NSEC)
-  pub kept : (n : Name) → is_among (renewed origin after keys) n ≡ Bool.false → nsec_records put n ≡ nsec_records after n
+  pub others : (n : Name) (t : ℕ) → (t == NSEC) ≡ false → owns put n t ≡ owns after n t
+  pub anew : (n : Name) → is_renewed origin after keys n ≡ Bool.true → nsec_records put n ≡ option_map (λ (s : RRset). s.records) (made n NSEC)
+  pub kept : (n : Name) → is_renewed origin after keys n ≡ false → nsec_records put n ≡ nsec_records after n
 
 -- the NSEC set of a name under its key, if the name is to have one
 abbrev pub nsec_entry_of : Name → Sets → ℕ → ℕ → Name → Option (RrKey × RRset)

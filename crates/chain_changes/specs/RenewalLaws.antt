@@ -8,13 +8,12 @@ use Rattle.zone_map.specs.Zones.{Sets, IsZone, owns}
 use Rattle.zone_denial.specs.Authority.{is_authoritative}
 use Rattle.zone_denial.specs.NsecCircle.{IsNsecCircle}
 use Rattle.zone_denial.specs.NsecSets.{nsec_set_at}
-use Rattle.update_in_place.specs.Parts.{is_among}
-use Rattle.chain_changes.specs.Renewal.{HaveChanges, IsRenewed, nsec_records, renewed}
+use Rattle.chain_changes.specs.Renewal.{HaveChanges, IsRenewed, nsec_records, is_renewed}
 
 -- where the names that own NSEC are those that the zone was authoritative for, the NSEC set of each name that isn't renewed is as it was
 abbrev pub OthersStay : Type 0
 OthersStay = (origin : Name) (m after : Sets) (keys : List RrKey) → HaveChanges keys m after → ((n : Name) → owns after n NSEC ≡ is_authoritative origin m NSEC n)
-    → (n : Name) → is_among (renewed origin after keys) n ≡ false → (ttl serial t : ℕ) → nsec_set_at origin after ttl serial n t ≡ nsec_set_at origin m ttl serial n t
+    → (n : Name) → is_renewed origin after keys n ≡ false → (ttl serial t : ℕ) → nsec_set_at origin after ttl serial n t ≡ nsec_set_at origin m ttl serial n t
 
 -- where the NSEC sets were those of the zone before, they are a circle once these are renewed
 abbrev pub RenewedIsCircle : Type 0

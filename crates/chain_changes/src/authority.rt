@@ -4,7 +4,7 @@ ghost use Rattle.std.specs.List.{list_any};
 ghost use Rattle.zone_proto.specs.Names.{is_above, is_at_or_above};
 ghost use Rattle.zone_proto.specs.Types.{NS, NSEC as nsec_type};
 ghost use Rattle.zone_map.specs.Zones.{owns};
-ghost use Rattle.zone_denial.specs.Authority.{is_authoritative, owns_besides};
+ghost use Rattle.zone_denial.specs.Authority.{is_authoritative, is_below_cut, owns_besides};
 ghost use Rattle.chain_changes.specs.Renewal.{has_cut_above};
 
 use std::alloc::Global;
@@ -62,6 +62,21 @@ fn has_other(types: &[RecordType]) -> bool
         .any(|record_type| record_type.0 != RecordType::NSEC.0)
 }
 
+/// Whether a name stands below a zone cut of the zone of an origin (RFC 1034 section 4.2): it costs what the names above it cost. Refused by `Memory`
+/// alone.
+#[tactic(auto, using(crate::proofs::Ancestors::cuts_above))]
+pub fn is_below_cut(
+    zone: &RecordMap,
+    origin: &LowerName,
+    name: &LowerName,
+) -> Result<bool, ProtoError>
+    ensures ok { IfOk result (λ is. is ≡ is_below_cut origin.now zone.now name.now) }
+    ensures err { IsOkUnless result ProtoError.Memory }
+{
+    let below = has_cut_above(zone, origin, name)?;
+    Ok(below)
+}
+
 /// Whether a zone cut is above a name (RFC 1034 section 4.2). Refused by `Memory` alone.
 #[tactic(auto, using(crate::proofs::Ancestors::next_cut, crate::proofs::Ancestors::at_cut))]
 fn has_cut_above(zone: &RecordMap, origin: &LowerName, name: &LowerName) -> Result<bool, ProtoError>
@@ -78,8 +93,8 @@ fn has_cut_above(zone: &RecordMap, origin: &LowerName, name: &LowerName) -> Resu
     Ok(false)
 }
 
-/// Whether a name is a zone cut. Refused by `Memory` alone.
-fn is_cut(zone: &RecordMap, origin: &LowerName, name: &LowerName) -> Result<bool, ProtoError>
+/// Whether a name is a zone cut: it stands strictly below the origin, and owns NS (RFC 1034 section 4.2). Refused by `Memory` alone.
+pub fn is_cut(zone: &RecordMap, origin: &LowerName, name: &LowerName) -> Result<bool, ProtoError>
     ensures ok { IfOk result
         (λ is. is ≡ (is_above origin.now name.now && owns zone.now name.now NS)) }
     ensures err { IsOkUnless result ProtoError.Memory }

@@ -6,7 +6,7 @@ ghost use Rattle.zone_map.specs.Zones.{Sets, owns, set_at};
 ghost use Rattle.zone_denial.specs.Authority.{is_authoritative};
 ghost use Rattle.zone_denial.specs.NsecSets.{nsec_set_at};
 ghost use Rattle.update_in_place.specs.Parts.{is_among, keys_lacking, AreChanged};
-ghost use Rattle.chain_changes.specs.Renewal.{renewed};
+ghost use Rattle.chain_changes.specs.Renewal.{is_renewed};
 
 use crate::renewing::{RenewedSets, renewed_sets};
 use std::alloc::Global;
@@ -28,10 +28,10 @@ pub fn changed_chain(
     ttl: u32,
     serial: u32,
 ) -> Result<RenewedSets, ProtoError>
-    ensures names { IfOk result (λ renewal. renewal.names.items
-        ≡ renewed origin.now zone.now
+    ensures names { IfOk result (λ renewal. (n : Name) → is_among renewal.names.items n
+        ≡ is_renewed origin.now zone.now
         (keys_lacking changed.now.before changed.now.after
-        ++ keys_lacking changed.now.after changed.now.before)) }
+        ++ keys_lacking changed.now.after changed.now.before) n) }
     ensures sets { IfOk result (λ renewal. (n : Name) (t : ℕ) → set_at renewal.sets n t
         ≡ (if is_among renewal.names.items n
         then nsec_set_at origin.now zone.now ttl serial n t else None)) }

@@ -6,7 +6,7 @@ ghost use Rattle.zone_map.specs.Zones.{Sets, owns, set_at, AreStored};
 ghost use Rattle.zone_denial.specs.Authority.{is_authoritative};
 ghost use Rattle.zone_denial.specs.NsecSets.{nsec_set_at};
 ghost use Rattle.update_in_place.specs.Parts.{is_among};
-ghost use Rattle.chain_changes.specs.Renewal.{nsec_entry_of, renewed, HaveChanges};
+ghost use Rattle.chain_changes.specs.Renewal.{is_renewed, nsec_entry_of, HaveChanges};
 
 use crate::entries::nsec_entry_of;
 use crate::touched::renewed;
@@ -17,7 +17,7 @@ use zone_proto::{LowerName, ProtoError, RecordSet, RrKey};
 /// NSEC sets of a zone that are made anew.
 #[derive(Drop)]
 pub struct RenewedSets {
-    /// The names whose NSEC sets they are, some of them more than once.
+    /// The names whose NSEC sets they are. Few of them stand here more than once: a name may where several of the sets that came or went touch it.
     pub names: Vec<LowerName>,
     /// Their NSEC sets. A name that has none here is to have none in the zone.
     pub sets: NewSets,
@@ -26,11 +26,10 @@ pub struct RenewedSets {
 /// The NSEC sets that are to take the place of others in the zone of an origin, once sets came or went in it under these keys, NSEC aside, and its NSEC
 /// sets stand as they were before.
 ///
-/// They are those of the owners of these sets, of the names below each zone cut that came or went, and of the nearest name before each of these
+/// They are those of the owners of these sets, of the names below each zone cut that came or went, and of the nearest name before each of these owners
 /// that has an NSEC set and is to have one. Each has the TTL `ttl`, in seconds, and the serial `serial`. Every other name keeps the NSEC set that it has
-/// (RFC 4035 section 2.3). It costs what these names cost, and the glue that stands between them and the next names, whatever else the zone has. But where a
-/// zone cut comes or goes, it may cost the square of the number of names below it: for each of these the nearest name before it is looked for beyond
-/// the others, and that one's set is made anew each time.
+/// (RFC 4035 section 2.3). It costs what these names cost, and the glue that stands between them and the next names, whatever else the zone has; and for
+/// each of these owners what the names cost that lost their NSEC sets and stand right before it, as where a zone cut came above them.
 ///
 /// # Errors
 ///
@@ -44,7 +43,8 @@ pub fn renewed_sets(
     serial: u32,
 ) -> Result<RenewedSets, ProtoError>
     ensures names { IfOk result
-        (λ renewal. renewal.names.items ≡ renewed origin.now zone.now keys.now) }
+        (λ renewal. (n : Name) → is_among renewal.names.items n
+        ≡ is_renewed origin.now zone.now keys.now n) }
     ensures sets { IfOk result (λ renewal. (n : Name) (t : ℕ) → set_at renewal.sets n t
         ≡ (if is_among renewal.names.items n
         then nsec_set_at origin.now zone.now ttl serial n t else None)) }

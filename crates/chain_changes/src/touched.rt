@@ -1,9 +1,10 @@
 //! The names whose NSEC sets a change of a zone may make others.
-ghost use Rattle.std.specs.Prelude.{◌≡◌, ◌++◌, ◌==◌, ◌&&◌, filter, option_copied, IfOk, OnOk, IsOkUnless};
-ghost use Rattle.std.specs.List.{flat_map};
-ghost use Rattle.zone_proto.specs.Names.{is_at_or_above};
+ghost use Rattle.std.specs.Prelude.{◌≡◌, ◌-◌, ◌++◌, ◌==◌, ◌&&◌, ◌||◌, [], ◌∷◌, false, filter, length, slice_get, option_copied, IfOk, OnOk, IsOkUnless};
+ghost use Rattle.std.specs.Option.{option_map_or};
+ghost use Rattle.zone_proto.specs.Names.{Name, name_eq, is_at_or_above};
 ghost use Rattle.zone_map.specs.Zones.{names_of};
-ghost use Rattle.chain_changes.specs.Renewal.{is_cut_key, nearest_before, renewed, touched, touched_by, with_nearest};
+ghost use Rattle.update_in_place.specs.Parts.{is_among};
+ghost use Rattle.chain_changes.specs.Renewal.{is_cut_key, is_renewed, is_renewed_by, is_touched_by, nearest_before};
 
 use crate::authority::{is_at_or_above, is_authoritative};
 use std::alloc::Global;
@@ -11,70 +12,55 @@ use zone_denial::authoritative_keys::is_above;
 use zone_map::{Reads, RecordMap};
 use zone_proto::{LowerName, ProtoError, RecordType, RrKey};
 
-/// The names whose NSEC sets are renewed in a zone in which sets came or went under these keys: those that are touched, and the nearest before
-/// each that has an NSEC set and is to have one. Refused by `Memory` alone.
+/// The names whose NSEC sets are renewed in a zone in which sets came or went under these keys: those that are touched, and the nearest before the
+/// owner of each of these sets that has an NSEC set and is to have one. Refused by `Memory` alone.
 pub(crate) fn renewed(
     alloc: Global,
     zone: &RecordMap,
     origin: &LowerName,
     keys: &[RrKey],
 ) -> Result<Vec<LowerName>, ProtoError>
-    ensures ok { IfOk result (λ names. names.items ≡ renewed origin.now zone.now keys.now) }
-    ensures err { IsOkUnless result ProtoError.Memory }
-{
-    let owners = touched(alloc, zone, origin, keys)?;
-    let names = with_nearest(alloc, zone, origin, owners.as_slice())?;
-    Ok(names)
-}
-
-/// Names, and the nearest before each. Refused by `Memory` alone.
-fn with_nearest(
-    alloc: Global,
-    zone: &RecordMap,
-    origin: &LowerName,
-    owners: &[LowerName],
-) -> Result<Vec<LowerName>, ProtoError>
-    ensures ok { IfOk result (λ names. names.items
-        ≡ flat_map (with_nearest origin.now zone.now) owners.now) }
-    ensures err { IsOkUnless result ProtoError.Memory }
-{
-    let mut names = Vec::new(alloc);
-    for name in owners {
-        push_with_nearest(alloc, zone, origin, name, &mut names)?;
-    }
-    Ok(names)
-}
-
-/// The names that these keys touch. Refused by `Memory` alone.
-fn touched(
-    alloc: Global,
-    zone: &RecordMap,
-    origin: &LowerName,
-    keys: &[RrKey],
-) -> Result<Vec<LowerName>, ProtoError>
-    ensures ok { IfOk result (λ names. names.items ≡ touched origin.now zone.now keys.now) }
+    ensures ok { IfOk result (λ names. (n : Name) → is_among names.items n
+        ≡ is_renewed origin.now zone.now keys.now n) }
     ensures err { IsOkUnless result ProtoError.Memory }
 {
     let mut names = Vec::new(alloc);
     for key in keys {
-        push_touched(zone, origin, key, &mut names)?;
+        push_renewed(alloc, zone, origin, key, &mut names)?;
     }
     Ok(names)
 }
 
+/// Puts the names that a key touches, and the nearest before its owner, behind others. Refused by `Memory` alone.
+fn push_renewed(
+    alloc: Global,
+    zone: &RecordMap,
+    origin: &LowerName,
+    key: &RrKey,
+    names: &mut Vec<LowerName>,
+) -> Result<(), ProtoError>
+    ensures ok { OnOk result ((n : Name) → is_among names.new.items n
+        ≡ (is_among names.old.items n || is_renewed_by origin.now zone.now key.now n)) }
+    ensures err { IsOkUnless result ProtoError.Memory }
+{
+    push_touched(zone, origin, key, names)?;
+    let nearest = nearest_before(alloc, zone, origin, &key.name)?;
+    push_if(nearest, names)?;
+    Ok(())
+}
+
 /// Puts the names that a key touches behind others. Refused by `Memory` alone.
-#[tactic(auto, using(crate::proofs::Pushed::touched_alone, crate::proofs::Pushed::touched_with))]
 fn push_touched(
     zone: &RecordMap,
     origin: &LowerName,
     key: &RrKey,
     names: &mut Vec<LowerName>,
 ) -> Result<(), ProtoError>
-    ensures ok { OnOk result
-        (names.new.items ≡ names.old.items ++ touched_by origin.now zone.now key.now) }
+    ensures ok { OnOk result ((n : Name) → is_among names.new.items n
+        ≡ (is_among names.old.items n || is_touched_by origin.now zone.now key.now n)) }
     ensures err { IsOkUnless result ProtoError.Memory }
 {
-    names.push(key.name.clone()?)?;
+    push_once(&key.name, names)?;
     if !is_cut_key(origin, key) {
         return Ok(());
     }
@@ -89,14 +75,15 @@ fn is_cut_key(origin: &LowerName, key: &RrKey) -> bool
     key.record_type == RecordType::NS && is_above(origin, &key.name)
 }
 
-/// Puts the names at or below one that own sets behind others, each as often as it owns one. Refused by `Memory` alone.
+/// Puts the names at or below one that own sets behind others. Refused by `Memory` alone.
 fn push_below(
     zone: &RecordMap,
     name: &LowerName,
     names: &mut Vec<LowerName>,
 ) -> Result<(), ProtoError>
-    ensures ok { OnOk result (names.new.items
-        ≡ names.old.items ++ filter (is_at_or_above name.now) (names_of zone.now)) }
+    ensures ok { OnOk result ((n : Name) → is_among names.new.items n
+        ≡ (is_among names.old.items n
+        || (is_at_or_above name.now n && is_among (names_of zone.now) n))) }
     ensures err { IsOkUnless result ProtoError.Memory }
 {
     let least = RrKey::first_of(name)?;
@@ -104,32 +91,48 @@ fn push_below(
         if !is_at_or_above(name, &key.name) {
             break;
         }
-        names.push(key.name.clone()?)?;
+        push_once(&key.name, names)?;
     }
     Ok(())
 }
 
-/// Puts a name and the nearest before it behind others. Refused by `Memory` alone.
-#[tactic(auto, using(crate::proofs::Pushed::none_nearer, crate::proofs::Pushed::one_nearer))]
-fn push_with_nearest(
-    alloc: Global,
-    zone: &RecordMap,
-    origin: &LowerName,
-    name: &LowerName,
-    names: &mut Vec<LowerName>,
-) -> Result<(), ProtoError>
-    ensures ok { OnOk result
-        (names.new.items ≡ names.old.items ++ with_nearest origin.now zone.now name.now) }
+/// Puts a name behind others, if there is any. Refused by `Memory` alone.
+fn push_if(name: Option<&LowerName>, names: &mut Vec<LowerName>) -> Result<(), ProtoError>
+    ensures ok { OnOk result ((n : Name) → is_among names.new.items n
+        ≡ (is_among names.old.items n
+        || option_map_or (name_eq n) (option_copied name.entry) false)) }
     ensures err { IsOkUnless result ProtoError.Memory }
 {
-    names.push(name.clone()?)?;
-    let nearest = nearest_before(alloc, zone, origin, name)?;
-    match nearest {
-        Some(nearest) => {
-            names.push(nearest.clone()?)?;
+    match name {
+        Some(name) => {
+            push_once(name, names)?;
             Ok(())
         }
         None => Ok(()),
+    }
+}
+
+/// Puts a name behind others, unless it is the last of them. Refused by `Memory` alone.
+fn push_once(name: &LowerName, names: &mut Vec<LowerName>) -> Result<(), ProtoError>
+    ensures ok { OnOk result ((n : Name) → is_among names.new.items n
+        ≡ (is_among names.old.items n || name_eq n name.now)) }
+    ensures err { IsOkUnless result ProtoError.Memory }
+{
+    if is_last(names.as_slice(), name) {
+        return Ok(());
+    }
+    names.push(name.clone()?)?;
+    Ok(())
+}
+
+/// Whether a name is the last of these.
+fn is_last(names: &[LowerName], name: &LowerName) -> bool
+    ensures { result
+        ≡ option_map_or (name_eq name.now) (slice_get names.now (length names.now - 1)) false }
+{
+    match names.last() {
+        Some(last) => name == last,
+        None => false,
     }
 }
 
