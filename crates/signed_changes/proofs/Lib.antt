@@ -1,0 +1,3 @@
+pub mod ClosedChain
+pub mod DueSets
+pub mod PutSets

@@ -1,0 +1,3 @@
+pub mod Renewing
+pub mod Signing
+pub mod Laws

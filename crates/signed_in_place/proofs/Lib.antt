@@ -1,0 +1,4 @@
+pub mod ChainStays
+pub mod DerivedStay
+pub mod OwnersPushed
+pub mod Unowned

@@ -1,0 +1,3 @@
+pub mod ChainLaws
+pub mod InPlace
+pub mod Updates

@@ -1,0 +1,15 @@
+//! Laws of signed zones that are changed in place. Each is an empty function whose contract is the law, so a program has no need to call one.
+ghost use Rattle.signed_in_place.specs.ChainLaws.{DerivedSetsStay, OwnChainStays};
+
+/// Where the NSEC sets of a zone are those that it is to have, they are so again in the version that an update makes of it in place, as long as the update
+/// leaves them and the TTL of denials as they are; and they are a chain (RFC 4035 section 2.3), so that everything that is proved about chains holds for
+/// each version in turn.
+pub fn own_chain_stays()
+    ensures { OwnChainStays }
+{}
+
+/// An update changes no set of the types that are made where a zone is signed (RFC 2136 section 3.3), as long as each of its records has data of its
+/// type: so it leaves the NSEC sets as they are, until they are renewed.
+pub fn derived_sets_stay()
+    ensures { DerivedSetsStay }
+{}
