@@ -1,0 +1,11 @@
+pub mod Around
+pub mod Locality
+pub mod Affected
+pub mod AffectedNames
+pub mod Counting
+pub mod Renewal
+pub mod RenewalLaws
+pub mod Standing
+pub mod Places
+pub mod AffectedPlaces
+pub mod Renewals
