@@ -4,7 +4,7 @@ use crate::changes::{changed_answer, cuts_answer};
 use crate::journal::{Journal, frame_answer, journal_answer, version_answer};
 use crate::keeping::{keep_answer, kept_answer};
 use crate::replays::{replay_answer, replay_here_answer, replay_scarce_answer};
-use crate::transfers::changes_answer;
+use crate::transfers::{changes_answer, condensed_answer};
 use compared_rows::Caller;
 use line_text::{TextError, Words, read_key, read_name, read_record};
 use std::alloc::Global;
@@ -47,6 +47,7 @@ impl Caller for Case {
             "changed-octets" => changed_answer(alloc, &self.journal),
             "scarce-replay" => replay_scarce_answer(alloc, self),
             "changes" => changes_answer(alloc, self, text),
+            "condensed" => condensed_answer(alloc, self, text),
             "keep" => keep_answer(alloc, self, text),
             "kept" => kept_answer(alloc, self, text),
             _ => Err(TextError::BadText),

@@ -18,6 +18,8 @@
 //! - `scarce-replay` replays it with no memory left, and then with a little more each time: whether memory was refused, and the answer then;
 //! - `changes SERIAL LIMIT` answers a secondary that holds the version of this serial, in messages of so many octets at most: by steps, in how
 //!   many messages, and whether it has the last version then, `same`, or `other`; or by the `SOA`, or the `whole zone`;
+//! - `condensed SERIAL LIMIT` does so by one step in place of those: and then, each after a semicolon, the records that it deletes (`-`) and adds (`+`);
+//!   or `none`, where no steps answer;
 //! - `keep COUNT` keeps the steps to versions from here on, of so many records at most, and `kept SERIAL` tells how many of them a secondary
 //!   lacks that holds the version of this serial, or `none`.
 #![tactic(auto)]

@@ -62,7 +62,7 @@ pub fn are_same(alloc: Global, one: &RecordMap, other: &RecordMap) -> Result<boo
 }
 
 /// The records of sets that are taken out and given, each behind a semicolon.
-fn difference_text(alloc: Global, difference: &Difference) -> Result<String, AllocError> {
+pub fn difference_text(alloc: Global, difference: &Difference) -> Result<String, AllocError> {
     let mut text = String::new(alloc);
     write_sets(&mut text, "-", difference.taken.as_slice())?;
     write_sets(&mut text, "+", difference.given.as_slice())?;

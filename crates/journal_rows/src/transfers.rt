@@ -1,6 +1,8 @@
 //! Steps sent to a secondary.
 
 use crate::calls::Case;
+use crate::replays::difference_text;
+use condensed_steps::condensed;
 use difference_messages::{
     DifferenceAnswer, DifferenceFault, DifferenceReply, difference_groups, reply_to, serial_of,
     write_next,
@@ -8,12 +10,14 @@ use difference_messages::{
 use line_text::{RecordText, TextError, Words};
 use message_reading::{Query, ReadError, read_query};
 use message_writing::Group;
+use shown_zones::{ZoneStep, difference_of};
 use std::alloc::{AllocError, Global};
+use std::slice::from_ref;
 use transfer_reading::{
     AnswerFault, Asked, Outcome, OutcomeFault, Question, Transfer, write_query,
 };
 use zone_map::RecordMap;
-use zone_proto::{RData, Record, RecordSet};
+use zone_proto::{LowerName, RData, Record, RecordSet};
 
 /// What answers a secondary that holds the version of a serial.
 pub fn changes_answer(alloc: Global, case: &Case, text: &str) -> Result<String, TextError> {
@@ -26,8 +30,41 @@ pub fn changes_answer(alloc: Global, case: &Case, text: &str) -> Result<String, 
     match reply_to(held, newest, steps) {
         DifferenceReply::StartOfAuthority => Ok(format!(in alloc; "SOA")?),
         DifferenceReply::WholeZone => Ok(format!(in alloc; "whole zone")?),
-        DifferenceReply::StepsFrom(place) => sent_answer(alloc, case, held, place, limit),
+        DifferenceReply::StepsFrom(place) => {
+            let left = steps_behind(steps, place)?;
+            sent_answer(alloc, case, held, place, left, limit)
+        }
     }
+}
+
+/// The steps that a secondary is sent which holds the version of a serial, condensed into one: in how many messages, and what it has then; and the
+/// records that the step deletes and adds.
+pub fn condensed_answer(alloc: Global, case: &Case, text: &str) -> Result<String, TextError> {
+    let mut words = Words::new(text.as_bytes());
+    let held = words.take_u32()?;
+    let limit = words.take_u16()?;
+    words.end()?;
+    let steps = case.journal.steps.as_slice();
+    let DifferenceReply::StepsFrom(place) = reply_to(held, newest_of(case)?, steps) else {
+        return Ok(format!(in alloc; "none")?);
+    };
+    let origin = LowerName::new(&case.origin)?;
+    let Some(step) = condensed(alloc, &origin, steps_behind(steps, place)?)? else {
+        return Ok(format!(in alloc; "no SOA")?);
+    };
+    let sent = sent_answer(alloc, case, held, place, from_ref(&step), limit)?;
+    let difference = difference_of(alloc, step)?;
+    let text = difference_text(alloc, &difference)?;
+    Ok(format!(in alloc; "{sent}{text}")?)
+}
+
+/// The steps from a place on.
+fn steps_behind(steps: &[ZoneStep], place: usize) -> Result<&[ZoneStep], TextError> {
+    if place > steps.len() {
+        return Err(TextError::BadText);
+    }
+    let (_, left) = steps.split_at(place);
+    Ok(left)
 }
 
 /// The serial of the last version.
@@ -41,12 +78,13 @@ pub fn newest_of(case: &Case) -> Result<u32, TextError> {
     serial_of(&last.new_soa).ok_or(TextError::BadText)
 }
 
-/// In how many messages the steps from a place on are sent, and what a secondary has then that had the version before them.
+/// In how many messages steps to the last version are sent, and what a secondary has then that had the version at a place.
 fn sent_answer(
     alloc: Global,
     case: &Case,
     held: u32,
     place: usize,
+    steps: &[ZoneStep],
     limit: u16,
 ) -> Result<String, TextError> {
     let asked = Asked {
@@ -55,7 +93,8 @@ fn sent_answer(
         question: Question::Changes(held),
     };
     let query = query_of(alloc, &asked)?;
-    let groups = groups_from(alloc, case, place)?;
+    let last = steps.last().ok_or(TextError::BadText)?;
+    let groups = difference_groups(alloc, &last.new_soa, steps)?;
     let mut transfer = Transfer::new(alloc, asked);
     match count_sent(alloc, &query, groups.as_slice(), limit, &mut transfer)? {
         None => Ok(format!(in alloc; "not taken")?),
@@ -74,17 +113,6 @@ fn query_of(alloc: Global, asked: &Asked) -> Result<Query, TextError> {
         Err(ReadError::Memory) => Err(TextError::Memory),
         Err(_) => Err(TextError::BadText),
     }
-}
-
-/// The records of the steps from a place on.
-fn groups_from(alloc: Global, case: &Case, place: usize) -> Result<Vec<Group<'_>>, TextError> {
-    let steps = case.journal.steps.as_slice();
-    if place > steps.len() {
-        return Err(TextError::BadText);
-    }
-    let (_, left) = steps.split_at(place);
-    let last = left.last().ok_or(TextError::BadText)?;
-    Ok(difference_groups(alloc, &last.new_soa, left)?)
 }
 
 /// Sends all messages to a secondary: how many; none where one can't be sent, or isn't taken.
