@@ -52,7 +52,7 @@ fn is_current(zones: &ZoneDatabase, updated: &UpdatedZone) -> Result<bool, Alloc
 }
 
 /// The serial of a zone; none where there is no zone, or it has no SOA. Fails only for lack of memory.
-pub(crate) fn serial_of(zone: Option<&Zone>) -> Result<Option<u32>, AllocError>
+pub fn serial_of(zone: Option<&Zone>) -> Result<Option<u32>, AllocError>
     ensures { IfOk result (λ serial. serial ≡ serial_of (option_copied zone.entry)) }
 {
     let Some(zone) = zone else {

@@ -59,8 +59,13 @@ pub(crate) fn changed_zone(
     }
 }
 
-/// What the journal of a zone of an origin gets of a change, if one is kept, and else no octets.
-fn frame_if_kept(
+/// What the journal of a zone of an origin gets of a change of its sets, if one is kept, and else no octets. It costs what these sets cost.
+///
+/// # Errors
+///
+/// `Unreadable` where a version has no SOA, so that there is no step from one to the other; `Unwritable` where an entry can't have it, as `write_entry`
+/// of `zone_journal` refuses it. `Memory` may come in place of either.
+pub fn frame_if_kept(
     alloc: Global,
     is_kept: bool,
     origin: &LowerName,

@@ -19,9 +19,9 @@ mod tables;
 
 pub use access::UpdateAccess;
 pub use answering::{UpdateAnswer, update_with_keys};
-pub use committing::{Commit, commit_update};
+pub use committing::{Commit, commit_update, serial_of};
 pub use fixed_zones::{has_expired, is_signed};
-pub use journaling::journaled;
+pub use journaling::{frame_if_kept, journaled};
 pub use planned::{PlannedUpdate, UpdatedZone};
 pub use planning::{plan_asked, plan_for, zone_after};
 pub use replaying::replayed_zone;
