@@ -7,7 +7,7 @@ use crate::asking::{ask, keep};
 use crate::questions::write_query;
 use crate::table::ReadyTable;
 use ready_denials::ready_denial;
-use ready_referrals::ready_referrals;
+use ready_referrals::{ReadyReferrals, ready_referrals};
 use std::alloc::{AllocError, Global};
 use zone_map::RecordMap;
 use zone_proto::{LowerName, Nsec3Hash, RecordType, Signer};
@@ -37,7 +37,7 @@ pub fn ready_table<S: Signer, H: Nsec3Hash>(
     list.push(zone)?;
     let zones = ListedZones::new(alloc, list)?;
     let mut table = ReadyTable::new(alloc);
-    keep_all(alloc, &zones, origin, records, &mut table)?;
+    keep_all(alloc, &zones, origin, records, &referrals, &mut table)?;
     let table = table.with_slots(alloc)?;
     Ok(ReadyTable {
         denial,
@@ -46,12 +46,13 @@ pub fn ready_table<S: Signer, H: Nsec3Hash>(
     })
 }
 
-/// Keeps the answers of a zone about its sets.
+/// Keeps the answers of a zone about its sets, but for those of names that are referred.
 fn keep_all<Z: ServedZones>(
     alloc: Global,
     zones: &Z,
     origin: &LowerName,
     records: &RecordMap,
+    referrals: &ReadyReferrals,
     table: &mut ReadyTable,
 ) -> Result<(), AllocError>
     ensures { OnOk result ((z : Zone) → Z.zones zones.now ≡ z ∷ [] → z.origin ≡ origin.now
@@ -59,6 +60,9 @@ fn keep_all<Z: ServedZones>(
 {
     let mut asked: Option<&LowerName> = None;
     for (key, _) in records.iter() {
+        if referrals.find(&key.name).is_some() {
+            continue;
+        }
         if has_addresses(key.record_type) {
             if !is_name(asked, &key.name) {
                 keep_answers(alloc, zones, origin, &key.name, RecordType::A, table)?;
