@@ -11,7 +11,7 @@ ghost use Rattle.ready_referrals.specs.Referrals.{referral, AreReferrals, IsRefe
 use crate::keeping::ReadyReferral;
 use crate::kept_cuts::ReadyReferrals;
 use crate::kept_sets::put_kept_sets;
-use message_reading::Query;
+use message_reading::{Query, read_header};
 use message_writing::{ResponseHead, ResponseWriter, Section, WriteError};
 use std::alloc::{AllocError, Global};
 use zone_proto::{DNSClass, LowerName, RecordType};
@@ -20,7 +20,8 @@ use zone_server::{DATAGRAM_SIZE, asks_for_dnssec};
 
 /// Answers a query for a name at or below a zone cut that is kept, in place of the octets of `out`. Whether it did; if not, the octets of `out` are no
 /// response. `name` is that of the question in lower case. A query for DS isn't answered, which at the cut itself is for the zone to answer (RFC 4035
-/// section 3.1.4.1), nor one whose question has upper-case letters in the name of the cut. Fails only for lack of memory.
+/// section 3.1.4.1), nor one whose question has upper-case letters in the name of the cut, nor one whose limit cuts the response: names are shortened to the
+/// cut alone here, and the zone may find one that is shorter. Fails only for lack of memory.
 pub fn put_referral(
     alloc: Global,
     referrals: &ReadyReferrals,
@@ -51,7 +52,7 @@ pub fn put_referral(
     }
 }
 
-/// Writes a referral, and says whether it did.
+/// Writes a referral, and says whether it did, and none of it was cut.
 fn write_referral(
     alloc: Global,
     kept: &ReadyReferral,
@@ -77,7 +78,15 @@ fn write_referral(
         return Ok(false);
     }
     writer.finish(out)?;
-    Ok(true)
+    Ok(!is_truncated(out.as_slice()))
+}
+
+/// Whether a message was cut.
+fn is_truncated(message: &[u8]) -> bool {
+    match read_header(message) {
+        Some((header, _)) => header.truncated,
+        None => false,
+    }
 }
 
 /// Appends the sections of a referral, and says whether it did: whether the zone cut stands at the end of the question's name.
