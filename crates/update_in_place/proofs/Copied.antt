@@ -48,7 +48,7 @@ module _ (from : Sets) (q : RrKey) where
   pub copy_apart : (m : Sets) (k : RrKey) → key_eq q k ≡ false → lookup (key_eq q) (with_copy from m k) ≡ lookup (key_eq q) m
   copy_apart m k h = found_one m k ∙ sym (not_any (key_eq q k) (lookup (key_eq q) m) h)
 
-  both : (b c : Bool) (o : Option RRset) → found_by c (found_by b o) ≡ found_by (b || c) o
+  pub both : (b c : Bool) (o : Option RRset) → found_by c (found_by b o) ≡ found_by (b || c) o
   both true true o = by o (lookup (key_eq q) from)
     where
       by : (o f : Option RRset) → option_or (option_or o f) f ≡ option_or o f

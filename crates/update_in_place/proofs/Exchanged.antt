@@ -46,7 +46,7 @@ module _ (m : Sets) (q : RrKey) where
       by true e g more = (name_eq-Decides q.name n).1 (ap (λ (k : RrKey). k.name) (key_same q (key n t) e))
       by false e g more = more g
 
-  among_by : (names : List Name) → any_key (flat_map (keys_of_name m) names) ≡ true → is_among names q.name ≡ true
+  pub among_by : (names : List Name) → any_key (flat_map (keys_of_name m) names) ≡ true → is_among names q.name ≡ true
   among_by [] h = absurd cc
   among_by (n ∷ names) h =
       by (any_key (keys_of_name m n)) refl (sym (list_any-append (key_eq q) (keys_of_name m n) (flat_map (keys_of_name m) names)) ∙ h) (among_by names)
@@ -60,7 +60,7 @@ module _ (m : Sets) (q : RrKey) where
   own_key h =
       any_from_In (key_eq q) q (keys_of_name m q.name) (In-map (key q.name) q.record_type.0 (types_at m q.name) (type_in m q.name q.record_type.0 h)) (key_itself q)
 
-  any_by : (names : List Name) → is_among names q.name ≡ true → owns m q.name q.record_type.0 ≡ true → any_key (flat_map (keys_of_name m) names) ≡ true
+  pub any_by : (names : List Name) → is_among names q.name ≡ true → owns m q.name q.record_type.0 ≡ true → any_key (flat_map (keys_of_name m) names) ≡ true
   any_by [] h g = absurd cc
   any_by (n ∷ names) h g = list_any-append (key_eq q) (keys_of_name m n) (flat_map (keys_of_name m) names) ∙ by (name_eq q.name n) refl h (λ i. any_by names i g)
     where
@@ -156,6 +156,21 @@ module _ (old mid whole new before after common : Sets) (ordered : InOrder whole
       ∙ ap (found_by (if owns before n t then set_at after n t else None))
       (put q ∙ ap (λ b. option_or (lookup (key_eq q) old) (if b then lookup (key_eq q) after else None)) (any_lacking after before q)))
       ∙ exchanged_by (lookup (key_eq q) after) (lookup (key_eq q) before) (lookup (key_eq q) old) (part n t)
+
+-- ---- what is put
+
+-- under a key: sets that stand there are known where one comes
+pub stands_under : (a : Option RRset) (gone : Bool) (o : Option RRset) → is_some a ≡ true → (if is_some a || gone then o else None) ≡ o
+stands_under (Some a) gone o h = refl
+stands_under None gone o h = absurd cc
+
+-- and what came takes the place of what stood, or nothing does where it goes
+pub put_by : (a : Option RRset) (gone : Bool) (o : Option RRset)
+    → option_or a (if is_some (if is_some a || gone then o else None) then None else o) ≡ option_or a (if gone then None else o)
+put_by (Some a) gone o = refl
+put_by None true None = refl
+put_by None true (Some s) = refl
+put_by None false o = refl
 
 -- ---- the whole zone
 

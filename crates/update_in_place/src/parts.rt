@@ -30,8 +30,14 @@ pub(crate) fn names_about(
     Ok(names)
 }
 
-/// Copies of the sets of these names.
-pub(crate) fn sets_of(
+/// Copies of the sets that these names have in a zone.
+///
+/// It costs what these sets cost, whatever else the zone has.
+///
+/// # Errors
+///
+/// `Memory`.
+pub fn sets_of(
     alloc: Global,
     zone: &RecordMap,
     names: &[LowerName],
@@ -48,8 +54,14 @@ pub(crate) fn sets_of(
     Ok(sets)
 }
 
-/// The keys of the sets of these names.
-fn keys_of_names(
+/// The keys of the sets that these names have in a zone, one name after the other: where a name stands among them twice, so do its keys.
+///
+/// It costs what these sets cost, whatever else the zone has.
+///
+/// # Errors
+///
+/// `Memory`.
+pub fn keys_of_names(
     alloc: Global,
     zone: &RecordMap,
     names: &[LowerName],
