@@ -2,6 +2,10 @@ pub mod Local
 pub mod OthersStay
 pub mod RenewedCircle
 pub mod TrimmedChain
+mod ListsMade
+pub mod SignedSets
+pub mod SignedChain
+mod SignedChainExamples
 mod Ancestors
 mod NamesFrom
 mod NearestRead

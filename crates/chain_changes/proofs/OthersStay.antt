@@ -17,13 +17,14 @@ use Rattle.zone_proto.proofs.Ordering.Orders.{less_test, upto_before, upto_same,
 use Rattle.zone_map.specs.Zones.{Sets, owns, owners, names_of}
 use Rattle.zone_map.proofs.Owned.{name_in, owner_in, owner_owned}
 use Rattle.zone_denial.specs.Authority.{is_authoritative, owns_besides}
+use Rattle.zone_denial.specs.NsecCircle.{nsec_next}
 use Rattle.zone_denial.specs.NsecSets.{nsec_set, nsec_set_at}
 use Rattle.zone_denial.proofs.Names.AuthoritativeNames.{from_besides}
 use Rattle.chain_changes.specs.Locality.{OwnsSame, HasSameCuts, HasSameNext, CameOrWent, Stays}
 use Rattle.update_in_place.specs.Parts.{is_among}
 use Rattle.chain_changes.specs.Renewal.{is_cut_key, is_touched_by, nearest_before, is_renewed_by, is_renewed, HaveChanges}
 use Rattle.chain_changes.specs.RenewalLaws.{OthersStay}
-use Rattle.chain_changes.proofs.Local.{authority_is_local, denials_are_local}
+use Rattle.chain_changes.proofs.Local.{authority_is_local, next_is_local, denials_are_local}
 
 -- a name that is among others by the test is one of them
 pub among_in : (names : List Name) (n : Name) → is_among names n ≡ true → In n names
@@ -196,6 +197,17 @@ module _ (origin : Name) (m after : Sets) (keys : List RrKey) (told : HaveChange
 
     same_next : had n ≡ true → HasSameNext m after origin n
     same_next on x d l = let t = moved_touched x d in nearest_between on x l t.0 t.1 t.2
+
+    -- ---- so these stay
+
+    pub types_stay : OwnsSame m after n
+    types_stay = owns_same n out
+
+    pub authority_stays : is_authoritative origin after NSEC n ≡ is_authoritative origin m NSEC n
+    authority_stays = unmoved n out
+
+    pub next_stays : is_authoritative origin m NSEC n ≡ true → nsec_next origin after n ≡ nsec_next origin m n
+    next_stays on = next_is_local origin m after n (same_next on)
 
     same_set : (ttl serial t : ℕ) → nsec_set_at origin after ttl serial n t ≡ nsec_set_at origin m ttl serial n t
     same_set ttl serial t = by (had n) refl

@@ -13,7 +13,7 @@ use Rattle.chain_changes.specs.Renewal.{nsec_records, is_renewed, HaveChanges, I
 use Rattle.chain_changes.specs.RenewalLaws.{RenewedIsCircle}
 use Rattle.chain_changes.proofs.OthersStay.{others_stay}
 
-some_mapped : {X Y : Type 0} (f : X → Y) (p : Option X) → is_some (option_map f p) ≡ is_some p
+pub some_mapped : {X Y : Type 0} (f : X → Y) (p : Option X) → is_some (option_map f p) ≡ is_some p
 some_mapped f None = refl
 some_mapped f (Some x) = refl
 

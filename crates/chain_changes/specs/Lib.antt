@@ -1,4 +1,5 @@
 pub mod Locality
 pub mod Renewal
 pub mod RenewalLaws
+pub mod SignedChains
 pub mod TrimmedRenewals

@@ -1,6 +1,7 @@
 //! Laws of the definitions of this crate. Each is an empty function whose contract is the law, so a program has no need to call one.
 ghost use Rattle.chain_changes.specs.Locality.{AuthorityIsLocal, DenialsAreLocal, NextIsLocal, TypesAreLocal};
 ghost use Rattle.chain_changes.specs.RenewalLaws.{OthersStay, RenewedIsCircle};
+ghost use Rattle.chain_changes.specs.SignedChains.{RenewedStaysChain, TrimmedIsSigned};
 ghost use Rattle.chain_changes.specs.TrimmedRenewals.{RenewedIsNsecChain};
 
 /// Whether a zone is authoritative for a name, and the types that the name's NSEC set lists, depend on what the name owns and on the zone cuts above
@@ -27,4 +28,12 @@ pub fn others_stay()
 pub fn renewed_sets_are_chain()
     ensures circle { RenewedIsCircle }
     ensures chain { RenewedIsNsecChain }
+{}
+
+/// The chain of NSEC sets of a signed zone, as BIND, ldns, Knot and this library write it, of whichever TTLs, stays one once those that a change of the
+/// zone makes others are made anew (RFC 4035 section 2.3). It has to go through all names that the zone is authoritative for, those below a DNAME too,
+/// and each of its lists to have RRSIG; so it does again, update after update. A zone that gets its NSEC sets as `zone_trimming` makes them begins so.
+pub fn renewed_chains_stay()
+    ensures made { TrimmedIsSigned }
+    ensures renewed { RenewedStaysChain }
 {}
