@@ -1,9 +1,8 @@
 -- NSEC sets put in place of those of some names, and those that are renewed so
-use Rattle.std.proofs.Common.{◌≡◌, ℕ, ◌==◌, ◌&&◌, ◌||◌, not, Bool, true, false, cond, List, refl, sym, ap, ◌∙◌, eqb-true, eq-eqb}
-use Rattle.std.proofs.Math.Bool.{or-false}
-use Rattle.std.specs.Prelude.{Option, Some, None, if◌then◌else◌, is_some, option_copied, option_map}
-use Rattle.std.specs.Borrow.{Bor}
+use Rattle.std.proofs.Common.{◌≡◌, ℕ, ◌==◌, ◌&&◌, ◌||◌, Bool, true, false, cond, List, [], ◌∷◌, map, refl, sym, ap, ◌∙◌, eqb-true, eq-eqb}
+use Rattle.std.specs.Prelude.{Option, Some, None, if◌then◌else◌, is_some, option_map}
 use Rattle.std.specs.Cmp.{both_ways}
+use Rattle.std.specs.List.{list_any}
 use Rattle.std.specs.Option.{option_or}
 use Rattle.zone_proto.specs.declared.rr_key.RrKey.{RrKey}
 use Rattle.zone_proto.specs.Keys.{key, key_eq}
@@ -13,7 +12,7 @@ use Rattle.zone_proto.specs.Types.{NSEC}
 use Rattle.zone_proto.proofs.Members.{and_left, and_right}
 use Rattle.zone_proto.proofs.Names.NameTree.{name_eq-Decides}
 use Rattle.zone_proto.proofs.Ordering.KeyOrder.{key_itself, key_same}
-use Rattle.zone_map.specs.Zones.{Sets, set_at, owns}
+use Rattle.zone_map.specs.Zones.{Sets, set_at}
 use Rattle.zone_denial.specs.NsecSets.{nsec_set, nsec_set_at}
 use Rattle.zone_denial.specs.Authority.{is_authoritative}
 use Rattle.zone_trimming.specs.Trimming.{trimmed_at, trimmed_set}
@@ -23,20 +22,9 @@ use Rattle.signed_changes.specs.Renewing.{with_renewed}
 
 -- ---- keys of sets that go
 
-pub and_none : (a : Bool) → false ≡ a && false
+and_none : (a : Bool) → false ≡ a && false
 and_none true = refl
 and_none false = refl
-
--- one more name
-pub spread : (a b c d : Bool) → ((a && (b && d)) || (a && (c && d))) ≡ (a && ((b || c) && d))
-spread true true c true = refl
-spread true true c false = by c
-  where
-    by : (c : Bool) → (c && false) ≡ false
-    by true = refl
-    by false = refl
-spread true false c d = refl
-spread false b c d = refl
 
 -- the key of a name and a type
 key_by : (n a : Name) (t u : ℕ) → key_eq (key n t) (key a u) ≡ (name_eq n a && (t == u))
@@ -55,48 +43,19 @@ key_by n a t u = both_ways (key_eq (key n t) (key a u)) (name_eq n a && (t == u)
         let type' : t ≡ u = eqb-true t u (and_right (name_eq n a) (t == u) h) in
         (λ i. key_eq (key (name i) (type' i)) (key a u)) ∙ key_itself (key a u)
 
-module _ (made : Sets) (n a : Name) (t : ℕ) where
-  -- where a set is made for a name, its key isn't among those that go
-  pub none_goes : owns made a NSEC ≡ true → (o : Bool) → o ≡ (o || ((t == NSEC) && (name_eq n a && not (owns made n NSEC))))
-  none_goes h o = by (name_eq n a) refl
-    where
-      kept : (b : Bool) → b ≡ false → o ≡ (o || ((t == NSEC) && b))
-      kept b e = sym (or-false o) ∙ ap (λ c. o || c) (and_none (t == NSEC)) ∙ ap (λ c. o || ((t == NSEC) && c)) (sym e)
-
-      by : (b : Bool) → name_eq n a ≡ b → o ≡ (o || ((t == NSEC) && (b && not (owns made n NSEC))))
-      by true e = kept (not (owns made n NSEC)) (ap not (ap (λ x. owns made x NSEC) ((name_eq-Decides n a).0 e) ∙ h))
-      by false e = kept false refl
-
-  -- and else it is
-  pub one_goes : owns made a NSEC ≡ false → (key_eq (key n t) (key a NSEC) || false) ≡ ((t == NSEC) && (name_eq n a && not (owns made n NSEC)))
-  one_goes h = or-false (key_eq (key n t) (key a NSEC)) ∙ key_by n a t NSEC ∙ by (name_eq n a) refl (t == NSEC)
-    where
-      by : (b : Bool) → name_eq n a ≡ b → (c : Bool) → (b && c) ≡ (c && (b && not (owns made n NSEC)))
-      by true e true = sym (ap not (ap (λ x. owns made x NSEC) ((name_eq-Decides n a).0 e) ∙ h))
-      by true e false = refl
-      by false e true = refl
-      by false e false = refl
-
--- what is lent is there where it is
-pub some_copied : (o : Option (Bor RRset)) → is_some (option_copied o) ≡ is_some o
-some_copied None = refl
-some_copied (Some s) = refl
-
--- ---- what stands once sets are exchanged
-
--- under a key: a set that is made takes the place of another, and an NSEC set that isn't goes
-pub put_by : (n : Name) (t : ℕ) (among : Bool) (made : ℕ → Option RRset) (o : Option RRset)
-    → cond ((t == NSEC) && (among && not (is_some (made NSEC)))) None (option_or (made t) o) ≡ option_or (made t) (if (t == NSEC) && among then None else o)
-put_by n t among made o = by (t == NSEC) refl among (made t) refl
+-- the keys of the NSEC sets of some names
+pub nsec_among : (n : Name) (t : ℕ) (names : List Name) → list_any (key_eq (key n t)) (map (λ (a : Name). key a NSEC) names) ≡ ((t == NSEC) && is_among names n)
+nsec_among n t [] = and_none (t == NSEC)
+nsec_among n t (a ∷ names) =
+    ap (λ b. b || list_any (key_eq (key n t)) (map (λ (x : Name). key x NSEC) names)) (key_by n a t NSEC)
+    ∙ ap (λ b. (name_eq n a && (t == NSEC)) || b) (nsec_among n t names)
+    ∙ spread (name_eq n a) (t == NSEC) (is_among names n)
   where
-    of_nsec : (t == NSEC) ≡ true → (p : Option RRset) → made t ≡ p → is_some (made NSEC) ≡ is_some p
-    of_nsec e p h = ap (λ u. is_some (made u)) (sym (eqb-true t NSEC e)) ∙ ap is_some h
-
-    by : (b : Bool) → (t == NSEC) ≡ b → (c : Bool) (p : Option RRset) → made t ≡ p → cond (b && (c && not (is_some (made NSEC)))) None (option_or p o) ≡ option_or p (if b && c then None else o)
-    by false e c p h = refl
-    by true e false p h = refl
-    by true e true (Some s) h = ap (λ x. cond (not x) None (Some s)) (of_nsec e (Some s) h)
-    by true e true None h = ap (λ x. cond (not x) None o) (of_nsec e None h)
+    spread : (a b c : Bool) → ((a && b) || (b && c)) ≡ (b && (a || c))
+    spread true true c = refl
+    spread true false c = refl
+    spread false true c = refl
+    spread false false c = refl
 
 -- ---- these are the sets that are renewed
 

@@ -3,7 +3,7 @@
 //!
 //! Once what an update changes is carried out in the zone (`update_in_place`), [`renew_chain`] puts the NSEC sets that this makes others in the place of
 //! those that stand. Then [`plan_change`] gives the sets that are to be signed, with blank signatures, so that `push_frames` and `finish` of `zone_planning`
-//! serve on these alone, and [`put_signed`] puts them in. To put sets takes a pass over the keys of the zone.
+//! serve on these alone, and [`put_signed`] puts them in. Each set is put in by its key.
 #![tactic(auto)]
 
 pub mod laws;

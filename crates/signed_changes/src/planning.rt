@@ -7,9 +7,9 @@ ghost use Rattle.zone_planner.specs.declared.keys.PlannedKey.{PlannedKey as Plan
 ghost use Rattle.zone_planner.specs.Faults.{request_fault};
 ghost use Rattle.signed_changes.specs.Signing.{IsDue};
 
-use crate::renewing::copies_of;
 use crate::signing::due_sets;
 use std::alloc::Global;
+use update_in_place::put_sets;
 use zone_map::RecordMap;
 use zone_planner::{PlannedKey, Request, plan_signers};
 use zone_planning::{Plan, PlanFault};
@@ -53,7 +53,7 @@ pub fn plan_change(
 
 /// Puts sets that were signed into a zone, in the places of those that stand under their keys, all or nothing.
 ///
-/// It costs what these sets cost, and a pass over the keys of the zone.
+/// It costs what these sets cost, each of which is found by its key, whatever else the zone has.
 ///
 /// # Errors
 ///
@@ -65,10 +65,7 @@ pub fn put_signed(alloc: Global, zone: &mut RecordMap, signed: &RecordMap) -> Re
     ensures err { IsOkUnless result ProtoError.Memory }
     ensures same { OnErr result (zone.new ≡ zone.old) }
 {
-    let copies = copies_of(alloc, signed)?;
-    let _replaced = zone.put_all(alloc, copies)?;
-    let _has = zone.len();
-    Ok(())
+    put_sets(alloc, zone, &[], signed)
 }
 
 /// The keys by themselves.

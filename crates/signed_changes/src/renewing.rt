@@ -1,12 +1,9 @@
 //! The NSEC sets that a change of a zone makes others, put into it.
-ghost use Rattle.std.specs.Prelude.{◌≡◌, ℕ, ◌==◌, ◌&&◌, ◌||◌, not, false, None, if◌then◌else◌, IfOk, OnOk, OnErr, IsOkUnless};
-ghost use Rattle.std.specs.List.{list_any};
-ghost use Rattle.std.specs.Option.{option_or};
-ghost use Rattle.zone_proto.specs.Keys.{key as key_at, key_eq};
-ghost use Rattle.zone_proto.specs.Names.{Name, name_eq};
+ghost use Rattle.std.specs.Prelude.{◌≡◌, ℕ, ◌==◌, false, map, IfOk, OnOk, OnErr, IsOkUnless};
+ghost use Rattle.zone_proto.specs.Keys.{key as key_at};
+ghost use Rattle.zone_proto.specs.Names.{Name};
 ghost use Rattle.zone_proto.specs.Types.{NSEC as nsec_type};
-ghost use Rattle.zone_map.specs.Puts.{without_all};
-ghost use Rattle.zone_map.specs.Zones.{owns, set_at, AreStored, IsZone};
+ghost use Rattle.zone_map.specs.Zones.{set_at, IsZone};
 ghost use Rattle.zone_denial.specs.NsecSets.{nsec_set_at};
 ghost use Rattle.zone_trimming.specs.Trimming.{trimmed_at};
 ghost use Rattle.update_in_place.specs.Parts.{is_among};
@@ -15,9 +12,9 @@ ghost use Rattle.signed_changes.specs.Renewing.{changed_keys, with_renewed};
 
 use chain_changes::{RenewedSets, changed_chain};
 use std::alloc::Global;
-use update_in_place::Changed;
+use update_in_place::{Changed, put_sets};
 use zone_map::{NewSets, RecordMap};
-use zone_proto::{LowerName, ProtoError, RecordSet, RecordType, RrKey};
+use zone_proto::{LowerName, ProtoError, RecordType, RrKey};
 use zone_trimming::trimmed;
 
 /// Closes the chain of NSEC sets of the zone of an origin again (RFC 4035 section 2.3), once what an update changes was carried out in it and its NSEC
@@ -25,8 +22,7 @@ use zone_trimming::trimmed;
 /// `zone_trimming` makes them. They have no signatures. Gives the names whose NSEC sets they are: a few of them may stand there more than once, and some
 /// have none. All else stays, signatures too.
 ///
-/// It costs what these names cost, as [`changed_chain`] says, and a pass over the keys of the zone, in which their sets are put; where a name gets its first
-/// NSEC set the index of the zone's owners is made anew, too.
+/// It costs what these names and their NSEC sets cost, as [`changed_chain`] and `put_sets` of `update_in_place` say, whatever else the zone has.
 ///
 /// # Errors
 ///
@@ -61,6 +57,8 @@ pub fn renew_chain(
 /// Puts NSEC sets of some names with trimmed lists of types in the place of those that these names have in a zone, all or nothing. A name that has none
 /// among them has none in the zone then; all else stays.
 ///
+/// It costs what these sets cost, each of which is found by its key, whatever else the zone has.
+///
 /// # Errors
 ///
 /// `Memory`. The zone is then as it was.
@@ -77,96 +75,20 @@ pub fn put_renewed(
     ensures same { OnErr result (zone.new ≡ zone.old) }
 {
     let made = RecordMap::from_sets(alloc, trimmed(alloc, sets)?)?;
-    let gone = keys_without(alloc, names, &made)?;
-    let copies = copies_of(alloc, &made)?;
-    exchange(alloc, zone, copies, gone.as_slice())?;
+    let gone = nsec_keys(alloc, names)?;
+    put_sets(alloc, zone, gone.as_slice(), &made)?;
     Ok(())
 }
 
-/// Puts sets in place of those that stand under their keys, and takes out those that stand under others, all or nothing.
-fn exchange(
-    alloc: Global,
-    zone: &mut RecordMap,
-    sets: NewSets,
-    gone: &[RrKey],
-) -> Result<(), ProtoError>
-    ensures put { OnOk result ((n : Name) (t : ℕ) → set_at zone.new n t
-        ≡ (if list_any (key_eq (key_at n t)) gone.now then None else
-        option_or (set_at sets n t) (set_at zone.old n t))) }
-    ensures zone { OnOk result (IsZone zone.new) }
-    ensures err { IsOkUnless result ProtoError.Memory }
-    ensures same { OnErr result (zone.new ≡ zone.old) }
-{
-    let _replaced = zone.put_all(alloc, sets)?;
-    let _has = zone.len();
-    remove_all(zone, gone);
-    let _left = zone.len();
-    Ok(())
-}
-
-/// Takes the sets under these keys out. Takes no memory.
-fn remove_all(zone: &mut RecordMap, keys: &[RrKey])
-    ensures { zone.new ≡ without_all zone.old keys.now }
-{
-    for key in keys {
-        let _ = zone.remove(key);
-    }
-}
-
-/// The keys of the NSEC sets that names have none of among these. Refused by `Memory` alone.
-fn keys_without(
-    alloc: Global,
-    names: &[LowerName],
-    made: &RecordMap,
-) -> Result<Vec<RrKey>, ProtoError>
-    ensures ok { IfOk result (λ keys. (n : Name) (t : ℕ)
-        → list_any (key_eq (key_at n t)) keys.items
-        ≡ ((t == nsec_type) && (is_among names.now n && not (owns made.now n nsec_type)))) }
+/// The keys of the NSEC sets of these names. Refused by `Memory` alone.
+fn nsec_keys(alloc: Global, names: &[LowerName]) -> Result<Vec<RrKey>, ProtoError>
+    ensures ok { IfOk result
+        (λ keys. keys.items ≡ map (λ n. key_at n nsec_type) names.now) }
     ensures err { IsOkUnless result ProtoError.Memory }
 {
-    let mut keys = Vec::new(alloc);
+    let mut keys = Vec::with_capacity(alloc, names.len())?;
     for name in names {
-        push_without(name, made, &mut keys)?;
+        keys.push(RrKey::new(name.clone()?, RecordType::NSEC))?;
     }
     Ok(keys)
-}
-
-/// Puts the key of a name's NSEC set behind others, where it has none among these sets. Refused by `Memory` alone.
-fn push_without(name: &LowerName, made: &RecordMap, keys: &mut Vec<RrKey>) -> Result<(), ProtoError>
-    ensures ok { OnOk result ((n : Name) (t : ℕ) → list_any (key_eq (key_at n t)) keys.new.items
-        ≡ (list_any (key_eq (key_at n t)) keys.old.items
-        || ((t == nsec_type) && (name_eq n name.now && not (owns made.now n nsec_type))))) }
-    ensures err { IsOkUnless result ProtoError.Memory }
-{
-    let key = RrKey::new(name.clone()?, RecordType::NSEC);
-    if made.get(&key).is_some() {
-        return Ok(());
-    }
-    keys.push(key)?;
-    Ok(())
-}
-
-/// Copies of the sets of a map. Refused by `Memory` alone.
-pub(crate) fn copies_of(alloc: Global, sets: &RecordMap) -> Result<NewSets, ProtoError>
-    ensures ok { IfOk result (λ copies. (n : Name) (t : ℕ) → set_at copies n t
-        ≡ set_at sets.now n t) }
-    ensures err { IsOkUnless result ProtoError.Memory }
-{
-    let entries = entries_of(alloc, sets)?;
-    let _sorted = sets.len();
-    let copies = NewSets::from_entries(alloc, entries)?;
-    Ok(copies)
-}
-
-/// Copies of the entries of a map, in order. Refused by `Memory` alone.
-fn entries_of(alloc: Global, sets: &RecordMap) -> Result<Vec<(RrKey, RecordSet)>, ProtoError>
-    ensures ok { IfOk result (λ entries. entries.items ≡ sets.now) }
-    ensures stored { OnOk result (AreStored sets.now) }
-    ensures err { IsOkUnless result ProtoError.Memory }
-{
-    let mut entries = Vec::new(alloc);
-    for (key, set) in sets.iter() {
-        entries.push((key.clone()?, set.clone()?))?;
-    }
-    Ok(entries)
 }

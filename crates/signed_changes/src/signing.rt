@@ -1,21 +1,21 @@
 //! The sets of a zone that have other signatures than they are to have, with blank ones in the places of those that are to be made.
-ghost use Rattle.std.specs.Prelude.{◌≡◌, ℕ, ◌==◌, ◌||◌, ◌++◌, None, map, if◌then◌else◌, IfOk, IfSome, OnOk, IsOkUnless};
-ghost use Rattle.std.specs.List.{flat_map, list_any};
+ghost use Rattle.std.specs.Prelude.{◌≡◌, ℕ, ◌==◌, ◌||◌, None, if◌then◌else◌, IfOk, IfSome, OnOk, IsOkUnless};
+ghost use Rattle.std.specs.List.{list_any};
 ghost use Rattle.std.specs.Option.{option_or};
 ghost use Rattle.zone_proto.specs.Keys.{key as key_at, key_eq};
 ghost use Rattle.zone_proto.specs.Names.{Name};
 ghost use Rattle.zone_map.specs.Zones.{set_at, IsStoredAt};
-ghost use Rattle.update_in_place.specs.Parts.{is_among, keys_of_name};
+ghost use Rattle.update_in_place.specs.Parts.{is_among};
 ghost use Rattle.zone_planner.specs.Zones.{is_left_out};
 ghost use Rattle.signed_changes.specs.Signing.{due_at, due_set};
 
 use chain_changes::{is_below_cut, is_cut};
 use std::alloc::Global;
+use update_in_place::keys_of_names;
 use zone_map::RecordMap;
 use zone_planning::PlanSigner;
 use zone_proto::{LowerName, ProtoError, RecordSet, RecordType, RrKey};
 use zone_signing::signatures::sign_set;
-use zone_update::types_at;
 
 /// The sets of these names in the zone of an origin that have other signatures than they are to have, as they are to be: those without signatures
 /// that are to be signed, with the blank ones of each planning signer that signs them, whose signatures begin at the moment `inception`, in seconds since
@@ -142,52 +142,4 @@ fn is_parents(record_type: RecordType) -> bool
     ensures { result ≡ (record_type.0 == 43) || (record_type.0 == 47) }
 {
     record_type == RecordType::DS || record_type == RecordType::NSEC
-}
-
-/// The keys of the sets of these names. Refused by `Memory` alone.
-fn keys_of_names(
-    alloc: Global,
-    zone: &RecordMap,
-    names: &[LowerName],
-) -> Result<Vec<RrKey>, ProtoError>
-    ensures ok { IfOk result (λ keys. keys.items ≡ flat_map (keys_of_name zone.now) names.now) }
-    ensures err { IsOkUnless result ProtoError.Memory }
-{
-    let mut keys = Vec::new(alloc);
-    for name in names {
-        push_keys(alloc, zone, name, &mut keys)?;
-    }
-    Ok(keys)
-}
-
-/// Puts the keys of the sets of a name behind others. Refused by `Memory` alone.
-fn push_keys(
-    alloc: Global,
-    zone: &RecordMap,
-    name: &LowerName,
-    keys: &mut Vec<RrKey>,
-) -> Result<(), ProtoError>
-    ensures ok { OnOk result (keys.new.items ≡ keys.old.items ++ keys_of_name zone.now name.now) }
-    ensures err { IsOkUnless result ProtoError.Memory }
-{
-    let least = RrKey::first_of(name)?;
-    let types = types_at(alloc, zone.as_map(), &least)?;
-    push_types(name, types.as_slice(), keys)?;
-    Ok(())
-}
-
-/// Puts the keys of a name and each of these types behind others. Refused by `Memory` alone.
-fn push_types(
-    name: &LowerName,
-    types: &[RecordType],
-    keys: &mut Vec<RrKey>,
-) -> Result<(), ProtoError>
-    ensures ok { OnOk result
-        (keys.new.items ≡ keys.old.items ++ map (λ t. key_at name.now t.0) types.now) }
-    ensures err { IsOkUnless result ProtoError.Memory }
-{
-    for record_type in types {
-        keys.push(RrKey::new(name.clone()?, *record_type))?;
-    }
-    Ok(())
 }
