@@ -38,8 +38,8 @@ pub enum Begun {
 /// chain of NSEC sets is closed again, as `renew_chain` of `signed_changes` does that, and the signatures of the sets that get others are planned. The NSEC
 /// sets get the TTL of denials (RFC 9077 section 3) and the serial of the zone after the update.
 ///
-/// It costs what the names cost whose sets change, and a pass over the keys of the zone, in which NSEC sets are put, as `renew_chain` says: nothing is made
-/// anew, copied or signed of what doesn't change.
+/// It costs what the names cost whose sets change, whatever else the zone has, as `renew_chain` says: nothing is made anew, copied or signed of what doesn't
+/// change.
 ///
 /// # Errors
 ///
