@@ -1,4 +1,5 @@
 pub mod ChainStays
 pub mod DerivedStay
 pub mod OwnersPushed
+pub mod SignedChains
 pub mod Unowned

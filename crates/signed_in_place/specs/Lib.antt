@@ -1,3 +1,4 @@
 pub mod ChainLaws
 pub mod InPlace
+pub mod SignedChains
 pub mod Updates

@@ -8,10 +8,9 @@ ghost use Rattle.zone_planning.specs.Filling.{filled, finish_fault};
 ghost use Rattle.update_in_place.specs.Parts.{is_among, AreChanged};
 
 use crate::beginning::PreparedChange;
-use crate::parts::sets_of;
 use signed_changes::put_signed;
 use std::alloc::Global;
-use update_in_place::Changed;
+use update_in_place::{Changed, sets_of};
 use zone_map::RecordMap;
 use zone_planning::{FinishFault, finish};
 use zone_proto::Seq;

@@ -11,7 +11,6 @@ mod denials;
 mod finishing;
 pub mod laws;
 mod names;
-mod parts;
 mod updating;
 
 pub use beginning::{Begun, PreparedChange, begin_change};
