@@ -1,7 +1,7 @@
 -- While the changes of an update are made, each set stays whose type is made where a zone is signed
-use Rattle.std.proofs.Common.{◌≡◌, ℕ, Bool, true, false, not, ◌&&◌, ◌||◌, ◌==◌, List, [], ◌∷◌, length, refl, sym, ap, ◌∙◌, subst, inl, inr, true≢false, Result, Ok, Err}
+use Rattle.std.proofs.Common.{◌≡◌, ℕ, Bool, true, false, not, ◌&&◌, ◌||◌, ◌==◌, List, [], ◌∷◌, length, refl, sym, ap, ◌∙◌, subst, inl, inr, true≢false, eqb-true, Result, Ok, Err}
 use Rattle.std.specs.Prelude.{Option, Some, None, if◌then◌else◌, is_some, option_map, unwrap_or}
-use Rattle.std.specs.List.{AllByRecursion}
+use Rattle.std.specs.List.{list_all, AllByRecursion}
 use Rattle.zone_proto.specs.declared.rr_key.RrKey.{RrKey}
 use Rattle.zone_proto.specs.Data.{type_of}
 use Rattle.zone_proto.specs.Keys.{key, key_eq}
@@ -9,7 +9,7 @@ use Rattle.zone_proto.specs.Names.{Name, lower}
 use Rattle.zone_proto.specs.Sets.{RRset}
 use Rattle.zone_proto.specs.Stepping.{stepped}
 use Rattle.zone_proto.specs.Types.{SOA, is_derived}
-use Rattle.zone_proto.proofs.Members.{In, In-from_filter, and_right, not_true}
+use Rattle.zone_proto.proofs.Members.{In, In-from_filter, and_left, and_right, not_true}
 use Rattle.zone_proto.proofs.Ordering.KeyOrder.{key_same}
 use Rattle.zone_map.specs.Zones.{Sets, put, set_at, types_at, without}
 use Rattle.zone_map.proofs.Stored.{put_apart}
@@ -27,6 +27,15 @@ use Rattle.update_permission.specs.Permissions.{type_about}
 use Rattle.update_permission.proofs.About.{about, IsAbout}
 use Rattle.update_permission.proofs.Apart.{by_addition, by_deletion, by_record_deletion, taken_out, DiffersAt}
 use Rattle.signed_in_place.specs.ChainLaws.{DerivedSetsStay, IsOfItsType}
+use Rattle.signed_in_place.specs.Updates.{is_of_its_type}
+
+-- the test whether records have data of their types
+pub each_of_its_type : (rs : List Entry) → list_all is_of_its_type rs ≡ true → AllByRecursion IsOfItsType rs
+each_of_its_type [] h = tt
+each_of_its_type (r ∷ rs) h = (
+  eqb-true (type_about r) r.record_type.0 (and_left (is_of_its_type r) (list_all is_of_its_type rs) h),
+  each_of_its_type rs (and_right (is_of_its_type r) (list_all is_of_its_type rs) h),
+)
 
 -- what there is only one of
 taken : (xs ys : List Change) (r : Result (List Change) Refusal) → r ≡ Ok xs → r ≡ Ok ys → xs ≡ ys

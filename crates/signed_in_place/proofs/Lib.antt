@@ -1,3 +1,4 @@
+pub mod BelowDnames
 pub mod ChainStays
 pub mod DerivedStay
 pub mod OwnersPushed

@@ -45,9 +45,15 @@ pub one_behind : (names new : List Name) (a x n : Name) → new ≡ names ++ x �
 one_behind names new a x n e is =
     ap (λ ns. is_among ns n) (e ∙ ap (λ y. names ++ y ∷ []) is) ∙ list_any-append (name_eq n) names (a ∷ []) ∙ ap (λ b. is_among names n || b) (or-false (name_eq n a))
 
--- a name that is among none of three lists together is among none of them
-pub none_of_three : (a b c : Bool) → ((a || b) || c) ≡ false → (a ≡ false) × (b ≡ false) × (c ≡ false)
-none_of_three true b c h = absurd (true≢false h)
-none_of_three false true c h = absurd (true≢false h)
-none_of_three false false true h = absurd (true≢false h)
-none_of_three false false false h = (refl, refl, refl)
+-- a name that is among none of three lists, and isn't the origin, is among none of them
+pub none_of_three : (a o b c : Bool) → (((a || o) || b) || c) ≡ false → (a ≡ false) × (b ≡ false) × (c ≡ false)
+none_of_three true o b c h = absurd (true≢false h)
+none_of_three false true b c h = absurd (true≢false h)
+none_of_three false false true c h = absurd (true≢false h)
+none_of_three false false false true h = absurd (true≢false h)
+none_of_three false false false false h = (refl, refl, refl)
+
+-- and the origin is among all of them
+pub origin_there : (a o b c : Bool) → o ≡ true → (((a || o) || b) || c) ≡ true
+origin_there true o b c h = refl
+origin_there false o b c h = ap (λ (x : Bool). (x || b) || c) h

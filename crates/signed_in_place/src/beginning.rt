@@ -4,24 +4,25 @@ ghost use Rattle.zone_proto.specs.Names.{Name};
 ghost use Rattle.zone_map.specs.Zones.{Sets};
 ghost use Rattle.update_in_place.specs.Parts.{AreChanged};
 ghost use Rattle.zone_planner.specs.Faults.{request_fault};
-ghost use Rattle.signed_in_place.specs.InPlace.{is_local, is_nsec, IsBegun, IsRenewedChange};
+ghost use Rattle.signed_in_place.specs.InPlace.{IsBegun, IsRenewedChange};
 
 use crate::denials::ttl_and_serial;
-use crate::names::push_owners;
+use crate::locality::is_local;
+use crate::names::{push_once, push_owners};
 use signed_changes::{plan_change, renew_chain};
 use std::alloc::Global;
 use update_in_place::{Changed, carry_out};
 use zone_map::RecordMap;
 use zone_planner::{PlannedKey, Request};
 use zone_planning::{Plan, PlanFault};
-use zone_proto::{LowerName, NxProofKind, ProtoError};
+use zone_proto::LowerName;
 
 /// A change of a zone that waits for its signatures.
 #[derive(Drop)]
 pub struct PreparedChange {
     /// The sets that get other signatures than they had, with blank ones in the places of those that are to be made, and the keys.
     pub plan: Plan,
-    /// The names whose sets it changes; some of them may stand there more than once.
+    /// The names whose sets it changes, and the origin; some of them may stand there more than once.
     pub names: Vec<LowerName>,
 }
 
@@ -30,7 +31,14 @@ pub struct PreparedChange {
 pub enum Begun {
     /// The zone is changed, and its chain closed again; signatures are to be made.
     Changed(PreparedChange),
-    /// All denials are to be made anew, since they get another TTL or aren't NSEC: nothing is changed.
+    /// More of the zone is to be made anew than what the change touches, or the change may not be made, so that all of the zone is to be prepared: nothing is
+    /// changed. So it is
+    ///
+    /// - where the zone is to deny otherwise than by NSEC, or doesn't as it stands: its origin owns no NSEC set, or NSEC3PARAM (RFC 5155 section 4);
+    /// - where denials get another TTL, since the SOA does or its minimum changes (RFC 9077 section 3);
+    /// - where a key's DNSKEY record isn't at the origin and is to be, or its CDS and CDNSKEY records (RFC 7344 section 3), or it is too long for a record;
+    /// - where the records of DNSKEY, CDS or CDNSKEY change at the origin, whose keys sign the zone;
+    /// - where a set of the names that change stands below a DNAME of the zone, or is a DNAME at a name that had none (RFC 6672 section 2.4).
     NotLocal,
 }
 
@@ -60,7 +68,7 @@ pub fn begin_change(
     ensures fault { IfErr result
         (λ e. (e ≡ PlanFault.Memory) ⊎ (request_fault keys.now request.now ≡ Some e)) }
 {
-    if !is_local(origin, zone, changed, request)? {
+    if !is_local(origin, zone, changed, keys, request)? {
         return Ok(Begun::NotLocal);
     }
     carry_out(alloc, zone, changed)?;
@@ -85,32 +93,9 @@ fn renew(
     let (ttl, serial) = ttl_and_serial(zone, origin)?;
     let renewed = renew_chain(alloc, origin, zone, changed, ttl, serial)?;
     let mut names = renewed;
+    push_once(origin, &mut names)?;
     push_owners(&changed.before, &mut names)?;
     push_owners(&changed.after, &mut names)?;
     let plan = plan_change(alloc, origin, zone, names.as_slice(), keys, request)?;
     Ok(PreparedChange { plan, names })
-}
-
-/// Whether the denials of a zone that changes stay as they are, but for those that the change makes others: they are NSEC and keep their TTL. Refused by
-/// `Memory` alone.
-fn is_local(
-    origin: &LowerName,
-    zone: &RecordMap,
-    changed: &Changed,
-    request: &Request,
-) -> Result<bool, ProtoError>
-    ensures ok { IfOk result (λ is. is ≡ is_local request.now.nx_proof_kind origin.now
-        zone.now changed.now.after) }
-    ensures err { IsOkUnless result ProtoError.Memory }
-{
-    let (before, _) = ttl_and_serial(zone, origin)?;
-    let (after, _) = ttl_and_serial(&changed.after, origin)?;
-    Ok(is_nsec(&request.nx_proof_kind) && before == after)
-}
-
-/// Whether a zone is to deny by NSEC.
-fn is_nsec(kind: &NxProofKind) -> bool
-    ensures { result ≡ is_nsec kind.now }
-{
-    matches!(kind, NxProofKind::Nsec)
 }

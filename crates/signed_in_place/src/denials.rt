@@ -8,7 +8,7 @@ use zone_map::RecordMap;
 use zone_proto::{LowerName, ProtoError, RecordType, RrKey};
 
 /// The TTL of the denials of the zone of an origin, in seconds, and its serial; both are 0 without an SOA. Refused by `Memory` alone.
-pub(crate) fn ttl_and_serial(zone: &RecordMap, origin: &LowerName) -> Result<(u32, u32), ProtoError>
+pub fn ttl_and_serial(zone: &RecordMap, origin: &LowerName) -> Result<(u32, u32), ProtoError>
     ensures ok { IfOk result
         (λ found. found ≡ (denial_ttl zone.now origin.now, serial zone.now origin.now)) }
     ensures err { IsOkUnless result ProtoError.Memory }

@@ -18,7 +18,7 @@ use zone_proto::Seq;
 /// Puts signatures in the places of the blank ones of a change that is prepared, in order, and the sets so into the version of the zone that is changed.
 /// Gives the sets of all names of the change as they are in the zone that is served, and as they are in this version: it differs in no others.
 ///
-/// It costs what these sets cost, whatever else the zone has.
+/// It costs what these sets cost, each of which is found by its key, whatever else the zone has.
 ///
 /// # Errors
 ///

@@ -8,11 +8,19 @@
 
 mod beginning;
 mod denials;
+mod dnames;
 mod finishing;
+mod keys;
 pub mod laws;
+mod locality;
 mod names;
 mod updating;
 
 pub use beginning::{Begun, PreparedChange, begin_change};
+pub use denials::ttl_and_serial;
+pub use dnames::meet_dname;
 pub use finishing::finish_change;
-pub use updating::{UpdateFault, begin_update};
+pub use keys::{has_keys, keeps_keys, keeps_records};
+pub use locality::{keeps_denial_ttl, owns};
+pub use names::{push_once, push_owners};
+pub use updating::{UpdateFault, are_of_their_types, begin_update};

@@ -9,7 +9,7 @@ use zone_map::RecordMap;
 use zone_proto::{LowerName, ProtoError};
 
 /// Puts the owners of these sets behind names. Refused by `Memory` alone.
-pub(crate) fn push_owners(sets: &RecordMap, names: &mut Vec<LowerName>) -> Result<(), ProtoError>
+pub fn push_owners(sets: &RecordMap, names: &mut Vec<LowerName>) -> Result<(), ProtoError>
     ensures ok { OnOk result ((n : Name) → is_among names.new.items n
         ≡ (is_among names.old.items n || is_among (names_of sets.now) n)) }
     ensures err { IsOkUnless result ProtoError.Memory }
@@ -21,7 +21,7 @@ pub(crate) fn push_owners(sets: &RecordMap, names: &mut Vec<LowerName>) -> Resul
 }
 
 /// Puts a name behind others, unless it is the last of them. Refused by `Memory` alone.
-fn push_once(name: &LowerName, names: &mut Vec<LowerName>) -> Result<(), ProtoError>
+pub fn push_once(name: &LowerName, names: &mut Vec<LowerName>) -> Result<(), ProtoError>
     ensures ok { OnOk result ((n : Name) → is_among names.new.items n
         ≡ (is_among names.old.items n || name_eq n name.now)) }
     ensures err { IsOkUnless result ProtoError.Memory }
