@@ -10,7 +10,7 @@ use Rattle.zone_proto.proofs.Names.Tree.{name_order, above_cases}
 use Rattle.zone_proto.proofs.Ordering.Orders.{irrefl, asym}
 use Rattle.zone_map.specs.Zones.{Sets, names_of, owns_at_or_below}
 use Rattle.zone_denial.proofs.Chain.NsecBelow.{above_at, above_through, comparable}
-use Rattle.update_in_place.specs.Parts.{is_among}
+use Rattle.hashed_changes.specs.Among.{is_among}
 use Rattle.hashed_changes.specs.Affected.{makes_cut, is_affected_below, is_affected_by, is_affected}
 use Rattle.hashed_changes.specs.AffectedNames.{with_ancestors, affected_by, all_affected}
 use Rattle.hashed_changes.proofs.Counted.{among_from}

@@ -1,19 +1,24 @@
 -- The places of the names that a change affects, one for one
-use Rattle.std.proofs.Common.{◌≡◌, ℕ, suc, ◌+◌, ◌<◌, Bool, true, false, cond, List, [], ◌∷◌, ◌++◌, length, get_or, take, map, add-one, refl, sym, ap, ◌∙◌, subst, inl, inr}
+use Rattle.std.proofs.Common.{◌≡◌, ℕ, suc, ◌+◌, ◌<◌, Bool, true, false, cond, List, [], ◌∷◌, ◌++◌, length, get_or, take, map, add-one, refl, sym, ap, ◌∙◌, subst, inl, inr, IsPermutation}
 use Rattle.std.specs.Prelude.{Option, Some, None, option_map}
-use Rattle.std.specs.List.{cons_option}
+use Rattle.std.specs.Cmp.{both_ways}
+use Rattle.std.specs.List.{Contains}
 use Rattle.std.proofs.Math.Seq.{take-suc}
+use Rattle.std.proofs.lemmas.List.Sorted.{Contains-permutation, IsPermutation-sym}
 use Rattle.zone_proto.specs.declared.record_type.RecordType.{RecordType}
 use Rattle.zone_proto.specs.HashedOwners.{hashed_owner}
 use Rattle.zone_proto.specs.Names.{Name}
-use Rattle.zone_proto.proofs.Members.{In}
+use Rattle.zone_proto.proofs.Members.{In, In-Contains, Contains-In, In-filter_map, In-from_filter_map, In-map, In-from_map}
 use Rattle.zone_map.specs.Zones.{Sets}
 use Rattle.zone_denial.specs.Nsec3Circle.{nsec3_types}
 use Rattle.zone_denial.specs.Nsec3Names.{nsec3_names}
-use Rattle.update_in_place.specs.Parts.{is_among}
+use Rattle.hashed_changes.specs.Among.{is_among}
 use Rattle.hashed_changes.specs.declared.places.Affected.{Affected}
-use Rattle.hashed_changes.specs.AffectedPlaces.{types_of_set, IsAffected, AreAffected}
+use Rattle.hashed_changes.specs.AffectedPlaces.{types_of_set, IsAffected, AreInTurn, AreAffected}
+use Rattle.hashed_changes.specs.Places.{owners_of}
 use Rattle.hashed_changes.specs.Renewal.{hashed_owners}
+use Rattle.hashed_changes.proofs.Counted.{among_from}
+use Rattle.hashed_changes.proofs.Names.{among_in}
 
 module _ (origin : Name) (m : Sets) (opt_out : Bool) (n : Name) where
   pub no_types : (gets : Bool) → gets ≡ is_among (nsec3_names origin m opt_out) n → gets ≡ false → None ≡ types_of_set origin m opt_out n
@@ -25,7 +30,7 @@ module _ (origin : Name) (m : Sets) (opt_out : Bool) (n : Name) where
 
 module _ (origin : Name) (m : Sets) (hash : Name → Option (List ℕ)) (opt_out : Bool) where
   abbrev Are : List Name → List Affected → Type 0
-  Are = AreAffected origin m hash opt_out
+  Are = AreInTurn origin m hash opt_out
 
   abbrev Is : Name → Affected → Type 0
   Is = IsAffected origin m hash opt_out
@@ -42,25 +47,54 @@ module _ (origin : Name) (m : Sets) (hash : Name → Option (List ℕ)) (opt_out
       subst (Are (take (suc i) all)) (sym made)
       (subst (λ (ns : List Name). Are ns (places ++ a ∷ [])) (sym (take-suc all i n lt ∙ ap (λ (x : Name). take i all ++ x ∷ []) (sym is))) (one_behind (take i all) places n a h k)))
 
-  -- their owners are the hashed owners of the names
-  pub owners_of : (ns : List Name) (places : List Affected) → Are ns places → map (λ (a : Affected). a.place.owner) places ≡ hashed_owners hash origin ns
-  owners_of [] [] h = refl
-  owners_of [] (a ∷ places) h = absurd h
-  owners_of (n ∷ ns) [] h = absurd h
-  owners_of (n ∷ ns) (a ∷ places) h =
-      (λ i. h.0.owner i ∷ owners_of ns places h.1 i)
-      ∙ ap (λ (d : Option (List ℕ)). cons_option (option_map (hashed_owner origin) d) (hashed_owners hash origin ns)) (sym h.0.digest)
-
-  pub name_of_place : (ns : List Name) (places : List Affected) → Are ns places → (a : Affected) → In a places → (n : Name) × In n ns × Is n a
+  name_of_place : (ns : List Name) (places : List Affected) → Are ns places → (a : Affected) → In a places → (n : Name) × In n ns × Is n a
   name_of_place [] [] h a i = absurd i
   name_of_place [] (b ∷ places) h a i = absurd h
   name_of_place (n ∷ ns) [] h a i = absurd i
   name_of_place (n ∷ ns) (b ∷ places) h a (inl e) = (n, inl refl, subst (Is n) e h.0)
   name_of_place (n ∷ ns) (b ∷ places) h a (inr i) = let r = name_of_place ns places h.1 a i in (r.0, inr r.1, r.2)
 
-  pub place_of_name : (ns : List Name) (places : List Affected) → Are ns places → (n : Name) → In n ns → (a : Affected) × In a places × Is n a
+  place_of_name : (ns : List Name) (places : List Affected) → Are ns places → (n : Name) → In n ns → (a : Affected) × In a places × Is n a
   place_of_name [] [] h n i = absurd i
   place_of_name [] (b ∷ places) h n i = absurd i
   place_of_name (x ∷ ns) [] h n i = absurd h
   place_of_name (x ∷ ns) (b ∷ places) h n (inl e) = (b, inl refl, subst (λ (y : Name). Is y b) e h.0)
   place_of_name (x ∷ ns) (b ∷ places) h n (inr i) = let r = place_of_name ns places h.1 n i in (r.0, inr r.1, r.2)
+
+  -- sorted they are those of the names, in any order
+  pub sorted_places : (ns : List Name) (places sorted : List Affected) → Are ns places → IsPermutation places sorted → AreAffected origin m hash opt_out ns sorted
+  sorted_places ns places sorted h moved = record {
+    each = λ n c.
+        let r = place_of_name ns places h n (Contains-In n ns c) in
+        (r.0, Contains-permutation places sorted r.0 moved (In-Contains r.0 places r.1), r.2);
+    no_other = λ a c.
+        let r = name_of_place ns places h a (Contains-In a places (Contains-permutation sorted places a (IsPermutation-sym places sorted moved) c)) in
+        (r.0, In-Contains r.0 ns r.1, r.2);
+  }
+
+  -- ---- their owners are the hashed owners of the names
+
+  module _ (ns : List Name) (places : List Affected) (h : AreAffected origin m hash opt_out ns places) where
+    hashed : (n : Name) (a : Affected) → Is n a → option_map (hashed_owner origin) (hash n) ≡ Some a.place.owner
+    hashed n a k = ap (option_map (hashed_owner origin)) k.digest ∙ ap Some (sym k.owner)
+
+    pub owner_in : (o : Name) → In o (owners_of places) → In o (hashed_owners hash origin ns)
+    owner_in o i =
+        let a = In-from_map (λ (x : Affected). x.place.owner) o places i in
+        let r = h.no_other a.0 (In-Contains a.0 places a.1) in
+        In-filter_map (λ n. option_map (hashed_owner origin) (hash n)) r.0 o ns (Contains-In r.0 ns r.1) (hashed r.0 a.0 r.2 ∙ ap Some a.2)
+
+    pub owner_from : (o : Name) → In o (hashed_owners hash origin ns) → In o (owners_of places)
+    owner_from o i =
+        let n = In-from_filter_map (λ x. option_map (hashed_owner origin) (hash x)) o ns i in
+        let r = h.each n.0 (In-Contains n.0 ns n.1) in
+        subst (λ x. In x (owners_of places)) (one r.0.place.owner o (sym (hashed n.0 r.0 r.2) ∙ n.2)) (In-map (λ (x : Affected). x.place.owner) r.0 places (Contains-In r.0 places r.1))
+      where
+        one : (x y : Name) → Some x ≡ Some y → x ≡ y
+        one x y e = cc
+
+    pub same_owners : (o : Name) → is_among (owners_of places) o ≡ is_among (hashed_owners hash origin ns) o
+    same_owners o =
+        both_ways (is_among (owners_of places) o) (is_among (hashed_owners hash origin ns) o)
+        (λ e. among_from (hashed_owners hash origin ns) o (owner_in o (among_in (owners_of places) o e)))
+        (λ e. among_from (owners_of places) o (owner_from o (among_in (hashed_owners hash origin ns) o e)))

@@ -15,7 +15,7 @@ use Rattle.zone_denial.specs.Authority.{is_authoritative, authoritative_names}
 use Rattle.zone_denial.specs.Nsec3Names.{is_unsigned_delegation, counted_names, nsec3_names, IsNsec3Name}
 use Rattle.zone_denial.proofs.Hashed.Nsec3NameLaws.{names_are_exact}
 use Rattle.zone_denial.proofs.Names.AuthoritativeNames.{authoritative_listed}
-use Rattle.update_in_place.specs.Parts.{is_among}
+use Rattle.hashed_changes.specs.Among.{is_among}
 use Rattle.hashed_changes.specs.Counting.{counts, has_counted, is_left_out}
 use Rattle.hashed_changes.proofs.Names.{among_in, not_among_from}
 

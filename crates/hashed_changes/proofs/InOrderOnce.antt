@@ -12,7 +12,7 @@ use Rattle.zone_proto.specs.Names.{Name, name_cmp}
 use Rattle.zone_proto.proofs.Members.{In-Contains, Contains-In}
 use Rattle.zone_proto.proofs.Names.Tree.{name_order}
 use Rattle.zone_proto.proofs.Ordering.KeyOrder.{equal_of}
-use Rattle.update_in_place.specs.Parts.{is_among}
+use Rattle.hashed_changes.specs.Among.{is_among}
 use Rattle.hashed_changes.proofs.Counted.{among_from}
 use Rattle.hashed_changes.proofs.Names.{among_in}
 

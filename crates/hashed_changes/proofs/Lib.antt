@@ -13,8 +13,12 @@ mod InOrderOnce
 mod NearestRead
 mod Betweens
 mod Renewing
+mod Halving
+mod InOrder
 mod NextPlaces
+mod Passing
 mod AffectedPlaces
+mod TrimmedTwice
 mod RightSets
 mod MadeSets
 mod EntriesMade

@@ -17,7 +17,7 @@ use Rattle.zone_denial.specs.Nsec3Names.{is_unsigned_delegation, counted_names, 
 use Rattle.zone_denial.proofs.Chain.NsecBelow.{above_at, comparable}
 use Rattle.zone_denial.proofs.Hashed.Nsec3NameLaws.{names_are_exact}
 use Rattle.zone_denial.proofs.Names.AuthoritativeNames.{authoritative_listed, from_besides}
-use Rattle.update_in_place.specs.Parts.{is_among}
+use Rattle.hashed_changes.specs.Among.{is_among}
 use Rattle.hashed_changes.specs.Affected.{HaveChanges, is_affected_below, is_affected_by, is_affected}
 use Rattle.hashed_changes.specs.Locality.{OwnsSame}
 use Rattle.hashed_changes.specs.RenewalLaws.{NamesAreLocal}

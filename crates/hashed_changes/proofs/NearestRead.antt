@@ -1,12 +1,10 @@
 -- Owners are read back, up to the nearest that is none of some
-use Rattle.std.proofs.Common.{◌≡◌, Bool, true, false, not, ◌&&◌, ◌||◌, List, [], ◌∷◌, ◌++◌, refl, sym, ap, ◌∙◌, subst, inl, inr}
+use Rattle.std.proofs.Common.{◌≡◌, Bool, true, false, not, ◌&&◌, List, [], ◌∷◌, ◌++◌, refl, sym, ap, ◌∙◌, subst, inl, inr}
 use Rattle.std.specs.Prelude.{Option, Some, None, filter}
 use Rattle.std.specs.Option.{option_or}
-use Rattle.std.specs.List.{list_any}
 use Rattle.std.specs.List.Sorted.{IsStrictlySortedBy}
-use Rattle.std.specs.Ordering.{eq_by_cmp}
 use Rattle.std.proofs.lemmas.List.{append-nil, append_assoc}
-use Rattle.zone_proto.specs.Names.{Name, name_cmp, name_eq}
+use Rattle.zone_proto.specs.Names.{Name, name_cmp}
 use Rattle.zone_proto.specs.Order.{is_before, greatest}
 use Rattle.zone_proto.specs.Types.{NSEC3}
 use Rattle.zone_proto.proofs.Names.Tree.{name_order}
@@ -15,8 +13,7 @@ use Rattle.zone_map.specs.Zones.{Sets, owners, IsZone}
 use Rattle.zone_map.proofs.Lists.{owners_ascend}
 use Rattle.zone_denial.proofs.Ascending.{Ascends, Ascends-filter, Ascends-from_sorted, sorted_from_Ascends}
 use Rattle.zone_denial.proofs.ReadBack.{NonePass, filter_same, filter_twice, none_greatest, found_greatest}
-use Rattle.update_in_place.specs.Parts.{is_among}
-use Rattle.hashed_changes.proofs.Counted.{same_by, other_by}
+use Rattle.hashed_changes.specs.Among.{is_among}
 use Rattle.hashed_changes.specs.Around.{nearest_around}
 use Rattle.hashed_changes.specs.Renewal.{owners_besides}
 
@@ -54,19 +51,6 @@ module _ (some all : List Name) where
           none : NonePass name_order is_other (o ∷ r.read)
           none y (inl e) = ap is_other (sym e) ∙ off
           none y (inr i) = r.none y i
-
--- ---- whether a name is one of some
-
-pub among_by : (some : List Name) (n : Name) (b : Bool) → b ≡ list_any (λ o. eq_by_cmp name_cmp n o) some → b ≡ is_among some n
-among_by some n b e = e ∙ any_same (λ o. eq_by_cmp name_cmp n o) (name_eq n) some (λ o. by o (eq_by_cmp name_cmp n o) refl)
-  where
-    by : (o : Name) (c : Bool) → eq_by_cmp name_cmp n o ≡ c → c ≡ name_eq n o
-    by o true h = sym (same_by n o h)
-    by o false h = sym (other_by n o h)
-
-    any_same : {A : Type 0} (p q : A → Bool) (xs : List A) → ((x : A) → p x ≡ q x) → list_any p xs ≡ list_any q xs
-    any_same p q [] h = refl
-    any_same p q (x ∷ xs) h = λ i. h x i || any_same p q xs h i
 
 -- ---- the two lists
 

@@ -1,10 +1,10 @@
--- A loop over places that looks for the one that comes next after an owner
-use Rattle.std.proofs.Common.{◌≡◌, ℕ, ◌+◌, ◌<◌, Bool, true, false, ◌&&◌, ◌||◌, cond, List, [], ◌∷◌, ◌++◌, length, get_or, take, add-one, refl, sym, ap, ◌∙◌, subst, true≢false, ◌⊎◌, inl, inr, append_assoc, is_lt}
-use Rattle.std.specs.Prelude.{Option, Some, None, is_some, option_to_list}
-use Rattle.std.specs.List.{cons_option}
-use Rattle.std.proofs.Math.Seq.{take-suc}
-use Rattle.std.proofs.lemmas.List.{append-nil}
-use Rattle.std.proofs.lemmas.List.Elements.{filter_map-append}
+-- The place that comes next after an owner
+use Rattle.std.proofs.Common.{◌≡◌, ℕ, ◌<◌, ◌≤◌, Bool, true, false, ◌&&◌, ◌||◌, List, [], ◌∷◌, ◌++◌, length, get_or, slice_get, refl, sym, ap, ◌∙◌, subst, true≢false, ◌⊎◌, inl, inr, arith, Less, is_lt}
+use Rattle.std.specs.Prelude.{Option, Some, None}
+use Rattle.std.specs.List.{Contains}
+use Rattle.std.specs.List.Sorted.{IsPartitionPoint}
+use Rattle.std.proofs.lemmas.Bool.{cases_lt}
+use Rattle.std.proofs.lemmas.List.{get_or_default}
 use Rattle.zone_proto.specs.Names.{Name, name_cmp}
 use Rattle.zone_proto.specs.Order.{is_before, is_upto}
 use Rattle.zone_proto.proofs.Members.{In, In-Contains, Contains-In, In-append_left, In-append_right, In-from_append, and_left, and_right, or_left, or_right}
@@ -12,9 +12,10 @@ use Rattle.zone_proto.proofs.Names.Tree.{name_order}
 use Rattle.zone_proto.proofs.Ordering.Orders.{less_test, irrefl}
 use Rattle.zone_denial.specs.Covering.{covers}
 use Rattle.hashed_changes.specs.declared.places.Place.{Place}
-use Rattle.hashed_changes.specs.declared.places.Affected.{Affected}
-use Rattle.hashed_changes.specs.Places.{fresh_places, places_of, comes_before, IsNextPlace}
+use Rattle.hashed_changes.specs.Places.{comes_before, ArePlacesInOrder, IsNextPlace}
 use Rattle.hashed_changes.proofs.Circle.{Between, inside, above, below, not_both, through}
+use Rattle.hashed_changes.proofs.Halving.{in_front, is_behind, not_less}
+use Rattle.hashed_changes.proofs.InOrder.{place_owner}
 
 -- ---- the test whether a name is between others
 
@@ -81,47 +82,60 @@ module _ (o : Name) where
       by w next e h b (inr (inl q)) = itself (subst (λ (x : Place). Between name_order o p.owner x.owner) (sym q) b)
       by w next e h b (inr (inr i)) = i
 
--- ---- the loop
+-- ---- one of some places in order comes next after o
 
-module _ (o : Name) (kept : Option Place) (all : List Affected) where
-  abbrev pub IsNextSoFar : ℕ → Option Place → Type 0
-  IsNextSoFar i next = IsNextPlace o (places_of kept (take i all)) next
-
-  pub none_yet : IsNextSoFar 0 kept
-  none_yet = by kept
+module _ (o : Name) (places : List Place) (up : ArePlacesInOrder places) (i : ℕ) (parted : IsPartitionPoint (λ (p : Place). is_upto name_cmp p.owner o ≡ true) (λ (p : Place). is_upto name_cmp p.owner o ≡ false) places i) where
+  -- the first of those after it
+  pub comes_next : (z : Place) → i < length places → z ≡ get_or places i z → IsNextPlace o places (Some z)
+  comes_next z l is = (there, λ w c. uncovered o z.owner w.owner (λ b. by w c b (cases_lt c.0 i)))
     where
-      by : (k : Option Place) → IsNextPlace o (option_to_list k ++ []) k
-      by None = refl
-      by (Some z) = (In-Contains z (z ∷ []) (inl refl), λ w c. of w (Contains-In w (z ∷ []) c))
-        where
-          itself : Between name_order o z.owner z.owner → ⊥
-          itself (inside l k) = irrefl name_order z.owner k
-          itself (above u l) = not_both name_order z.owner o u l
-          itself (below u k) = irrefl name_order z.owner k
+      there : Contains places z
+      there = (i, l, sym is)
 
-          of : (w : Place) → In w (z ∷ []) → covers name_cmp o z.owner w.owner ≡ false
-          of w (inl q) = ap (λ (x : Place). covers name_cmp o z.owner x.owner) (sym q) ∙ uncovered o z.owner z.owner itself
-          of w (inr i) = absurd i
+      later : name_cmp o z.owner ≡ Less
+      later = is_behind place_owner o places up i parted z there (omega arith)
 
-  module _ (i : ℕ) (a : Affected) (next : Option Place) (lt : i < length all) (is : a ≡ get_or all i a) (h : IsNextSoFar i next) where
-    more : places_of kept (take (i + 1) all) ≡ places_of kept (take i all) ++ cond (is_some a.types) (a.place ∷ []) []
-    more = rw add-one (
-        ap (λ (ns : List Affected). places_of kept ns) (take-suc all i a lt ∙ ap (λ (x : Affected). take i all ++ x ∷ []) (sym is))
-        ∙ ap (λ (ps : List Place). option_to_list kept ++ ps) (filter_map-append (λ (x : Affected). cond (is_some x.types) (Some x.place) None) (take i all) (a ∷ []) ∙ ap (λ (ps : List Place). fresh_places (take i all) ++ ps) (alone (is_some a.types)))
-        ∙ sym (append_assoc (option_to_list kept) (fresh_places (take i all)) (cond (is_some a.types) (a.place ∷ []) [])))
-      where
-        alone : (b : Bool) → cons_option (cond b (Some a.place) None) [] ≡ cond b (a.place ∷ []) []
-        alone true = refl
-        alone false = refl
+      by : (w : Place) (c : Contains places w) → Between name_order o z.owner w.owner → (c.0 < i) ⊎ (i ≤ c.0) → ⊥
+      by w c (inside h k) (inl low) = not_both name_order w.owner o (in_front place_owner o places up i parted w c low) h
+      by w c (inside h k) (inr high) = not_less place_owner o places up i z w c high (get_or_default places i w z l ∙ sym is) k
+      by w c (above u h) s = not_both name_order z.owner o u later
+      by w c (below u k) s = not_both name_order z.owner o u later
 
-    pub gets_none : is_some a.types ≡ false → IsNextSoFar (i + 1) next
-    gets_none e = subst (λ (ps : List Place). IsNextPlace o ps next) (sym (more ∙ ap (λ b. places_of kept (take i all) ++ cond b (a.place ∷ []) []) e ∙ append-nil (places_of kept (take i all)))) h
+  none_later : length places ≤ i → (w : Place) (c : Contains places w) → name_cmp o w.owner ≡ Less → ⊥
+  none_later all w c h = not_both name_order w.owner o (in_front place_owner o places up i parted w c (omega (arith, c.1))) h
 
-    with_place : is_some a.types ≡ true → places_of kept (take (i + 1) all) ≡ places_of kept (take i all) ++ a.place ∷ []
-    with_place e = more ∙ ap (λ b. places_of kept (take i all) ++ cond b (a.place ∷ []) []) e
+-- or where none is after it, the first of all
+pub comes_first_of_all : (o : Name) (places : List Place) → ArePlacesInOrder places → (i : ℕ) → IsPartitionPoint (λ (p : Place). is_upto name_cmp p.owner o ≡ true) (λ (p : Place). is_upto name_cmp p.owner o ≡ false) places i
+    → length places ≤ i → (next : Option Place) → next ≡ slice_get places 0 → IsNextPlace o places next
+comes_first_of_all o [] up i parted all next e = subst (IsNextPlace o []) (sym e) refl
+comes_first_of_all o (z ∷ zs) up i parted all next e = subst (IsNextPlace o (z ∷ zs)) (sym e) ((0, omega arith, refl), λ w c. uncovered o z.owner w.owner (λ b. by w c b))
+  where
+    by : (w : Place) (c : Contains (z ∷ zs) w) → Between name_order o z.owner w.owner → ⊥
+    by w c (inside h k) = none_later o (z ∷ zs) up i parted all w c h
+    by w c (above u h) = none_later o (z ∷ zs) up i parted all w c h
+    by w c (below u k) = not_less place_owner o (z ∷ zs) up 0 z w c (omega arith) refl k
 
-    pub not_next : is_some a.types ≡ true → comes_before o a.place next ≡ false → IsNextSoFar (i + 1) next
-    not_next e c = subst (λ (ps : List Place). IsNextPlace o ps next) (sym (with_place e)) (goes_past o (places_of kept (take i all)) a.place next c h)
+-- ---- one more in front
 
-    pub is_next : is_some a.types ≡ true → comes_before o a.place next ≡ true → IsNextSoFar (i + 1) (Some a.place)
-    is_next e c = subst (λ (ps : List Place). IsNextPlace o ps (Some a.place)) (sym (with_place e)) (goes_to o (places_of kept (take i all)) a.place next c h)
+module _ (o : Name) (p : Place) (others : List Place) where
+  moved : (z : Place) → IsNextPlace o (others ++ p ∷ []) (Some z) → IsNextPlace o (p ∷ others) (Some z)
+  moved z h = (
+    In-Contains z (p ∷ others) (to_front z (In-from_append z others (p ∷ []) (Contains-In z (others ++ p ∷ []) h.0))),
+    λ w c. h.1 w (In-Contains w (others ++ p ∷ []) (to_end w (Contains-In w (p ∷ others) c))),
+  )
+    where
+      to_front : (w : Place) → In w others ⊎ In w (p ∷ []) → In w (p ∷ others)
+      to_front w (inl i) = inr i
+      to_front w (inr (inl e)) = inl e
+      to_front w (inr (inr i)) = absurd i
+
+      to_end : (w : Place) → In w (p ∷ others) → In w (others ++ p ∷ [])
+      to_end w (inl e) = In-append_right w others (p ∷ []) (inl e)
+      to_end w (inr i) = In-append_left w others (p ∷ []) i
+
+  pub comes_first : (next : Option Place) (b : Bool) → b ≡ comes_before o p next → b ≡ true → IsNextPlace o others next → IsNextPlace o (p ∷ others) (Some p)
+  comes_first next b is e h = moved p (goes_to o others p next (sym is ∙ e) h)
+
+  pub comes_later : (next : Option Place) (b : Bool) → b ≡ comes_before o p next → b ≡ false → IsNextPlace o others next → IsNextPlace o (p ∷ others) next
+  comes_later None b is e h = absurd (true≢false (sym is ∙ e))
+  comes_later (Some z) b is e h = moved z (goes_past o others p (Some z) (sym is ∙ e) h)

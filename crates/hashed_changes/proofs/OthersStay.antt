@@ -23,7 +23,7 @@ use Rattle.zone_denial.proofs.Ascending.{Ascends-filter, Ascends-from_sorted, so
 use Rattle.zone_denial.proofs.InOrder.{ascending_same}
 use Rattle.zone_denial.proofs.Hashed.HashedCircle.{hashed_order, hashed_ascends, hashed, hashed_in, name_of_hashed, next_has_next_digest}
 use Rattle.zone_denial.proofs.Hashed.Nsec3Owners.{octets_order, sort_as_digests, digest_among, name_of_among}
-use Rattle.update_in_place.specs.Parts.{is_among}
+use Rattle.hashed_changes.specs.Among.{is_among}
 use Rattle.hashed_changes.specs.Affected.{is_affected}
 use Rattle.hashed_changes.specs.Around.{nearest_around}
 use Rattle.hashed_changes.specs.Renewal.{hashed_owners, owners_besides, with_nearest, renewed, IsOfEither, IsChange}

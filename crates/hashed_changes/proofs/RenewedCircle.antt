@@ -8,7 +8,7 @@ use Rattle.zone_map.specs.Zones.{set_at, owns}
 use Rattle.zone_denial.specs.Nsec3Sets.{nsec3_set_at}
 use Rattle.zone_denial.proofs.Chains.Circles.{nsec3_circle_is_chain}
 use Rattle.zone_denial.proofs.Hashed.Nsec3Secured.{secured_is_nsec3_circle}
-use Rattle.update_in_place.specs.Parts.{is_among}
+use Rattle.hashed_changes.specs.Among.{is_among}
 use Rattle.hashed_changes.specs.Renewal.{nsec3_records, renewed}
 use Rattle.hashed_changes.specs.RenewalLaws.{RenewedAreMade, RenewedIsNsec3Zone, RenewedIsNsec3Chain}
 use Rattle.hashed_changes.proofs.OthersStay.{others_stay, apart_after}

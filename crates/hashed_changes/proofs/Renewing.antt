@@ -19,7 +19,8 @@ use Rattle.zone_denial.specs.Nsec3Zones.{IsCircleName, HasDistinctDigests}
 use Rattle.zone_denial.proofs.Ascending.{Ascends, Ascends-filter, Ascends-from_sorted}
 use Rattle.zone_denial.proofs.Hashed.HashedCircle.{hashed_order, hashed_ascends, hashed, hashed_in, name_of_hashed, next_has_next_digest}
 use Rattle.zone_denial.proofs.Hashed.Nsec3Owners.{octets_order, same_by_owner, same_value, digest_among, name_of_among}
-use Rattle.update_in_place.specs.Parts.{is_among}
+use Rattle.zone_trimming.specs.Trimming.{trimmed_set, trimmed_types}
+use Rattle.hashed_changes.specs.Among.{is_among}
 use Rattle.hashed_changes.specs.Renewal.{hashed_owners, IsChange}
 use Rattle.hashed_changes.specs.Standing.{said, said_by, said_next, IsFollowed, by_it, past, IsStanding, StandingIsChange}
 use Rattle.hashed_changes.proofs.Betweens.{split, from_later, further, one_first}
@@ -37,6 +38,10 @@ only_one {A} {R} o x (y ∷ z ∷ ys) a i same =
 some_mapped : {X Y : Type 0} (f : X → Y) (p : Option X) → is_some (option_map f p) ≡ is_some p
 some_mapped f None = refl
 some_mapped f (Some x) = refl
+
+-- what a set with a trimmed list says
+abbrev pub trimmed_nsec3 : Nsec3Data → Nsec3Data
+trimmed_nsec3 d = record d { types = trimmed_types d.types }
 
 -- ---- the set of a name is of one record
 
@@ -91,7 +96,9 @@ module _ (origin : Name) (m after : Sets) (keys : List RrKey) (names : List Name
   }
 
   pub held_of : (x : Name) → owns after x NSEC3 ≡ is_some (nsec3_set_at origin m hash parameters ttl serial x)
-  held_of x = sym (some_mapped (λ (s : RRset). s.records) (set_at after x NSEC3)) ∙ ap is_some (st.stood x) ∙ some_mapped (λ (s : RRset). s.records) (nsec3_set_at origin m hash parameters ttl serial x)
+  held_of x =
+      sym (some_mapped (λ (s : RRset). s.records) (set_at after x NSEC3)) ∙ ap is_some (st.stood x) ∙ some_mapped (λ (s : RRset). s.records) (option_map trimmed_set (nsec3_set_at origin m hash parameters ttl serial x))
+      ∙ some_mapped trimmed_set (nsec3_set_at origin m hash parameters ttl serial x)
 
   abbrev pub apart_was : HasDistinctDigests (IsCircleName origin m parameters.opt_out) hash
   apart_was = record {
@@ -149,10 +156,10 @@ module _ (origin : Name) (m after : Sets) (keys : List RrKey) (names : List Name
 
   -- ---- what the set of a name says that stands
 
-  pub said_of : (n : Name) → In n (named m) → said after (owner n) ≡ Some (nsec3_data parameters (next_digest were (digest n)) (nsec3_types origin m n))
+  pub said_of : (n : Name) → In n (named m) → said after (owner n) ≡ Some (trimmed_nsec3 (nsec3_data parameters (next_digest were (digest n)) (nsec3_types origin m n)))
   said_of n i =
-      ap said_by (st.stood (owner n) ∙ ap (option_map (λ (s : RRset). s.records)) (set_of_name origin m hash parameters ttl serial apart_was n i))
-      ∙ ap (λ (d : List ℕ). Some (nsec3_data parameters d (nsec3_types origin m n))) (next_has_next_digest origin m hash parameters.opt_out apart_was n i)
+      ap said_by (st.stood (owner n) ∙ ap (λ (p : Option RRset). option_map (λ (s : RRset). s.records) (option_map trimmed_set p)) (set_of_name origin m hash parameters ttl serial apart_was n i))
+      ∙ ap (λ (d : List ℕ). Some (trimmed_nsec3 (nsec3_data parameters d (nsec3_types origin m n)))) (next_has_next_digest origin m hash parameters.opt_out apart_was n i)
 
   next_name : (n : Name) → In n (named m) → (d : List ℕ) → said_next after (owner n) ≡ Some d → (k : Name) × In k (named m) × (d ≡ digest k) × ((w : Name) → In w (named m) → Between octets_order (digest n) (digest k) (digest w) → ⊥)
   next_name n i d s =

@@ -1,12 +1,13 @@
 -- The places of the names that a change affects
 use Rattle.std.specs.Prelude.{◌≡◌, ℕ, Bool, cond, List, [], ◌∷◌, map, Option, Some, None, option_map}
+use Rattle.std.specs.List.{Contains}
 use Rattle.zone_proto.specs.declared.record_type.RecordType.{RecordType}
 use Rattle.zone_proto.specs.HashedOwners.{hashed_owner}
 use Rattle.zone_proto.specs.Names.{Name}
 use Rattle.zone_map.specs.Zones.{Sets}
 use Rattle.zone_denial.specs.Nsec3Circle.{nsec3_types}
 use Rattle.zone_denial.specs.Nsec3Names.{nsec3_names}
-use Rattle.update_in_place.specs.Parts.{is_among}
+use Rattle.hashed_changes.specs.Among.{is_among}
 use Rattle.hashed_changes.specs.declared.places.Affected.{Affected}
 
 -- the types that the NSEC3 set of a name lists, if it gets one
@@ -21,8 +22,13 @@ module _ (origin : Name) (m : Sets) (hash : Name → Option (List ℕ)) (opt_out
     pub types : option_map (λ (ts : List RecordType). map (λ (t : RecordType). t.0) ts) a.types ≡ types_of_set origin m opt_out n
 
   -- places are those of names, one for one
-  abbrev pub AreAffected : List Name → List Affected → Type 0
-  AreAffected [] [] = Unit {0}
-  AreAffected [] (a ∷ rest) = ⊥
-  AreAffected (n ∷ names) [] = ⊥
-  AreAffected (n ∷ names) (a ∷ rest) = IsAffected n a × AreAffected names rest
+  abbrev pub AreInTurn : List Name → List Affected → Type 0
+  AreInTurn [] [] = Unit {0}
+  AreInTurn [] (a ∷ rest) = ⊥
+  AreInTurn (n ∷ names) [] = ⊥
+  AreInTurn (n ∷ names) (a ∷ rest) = IsAffected n a × AreInTurn names rest
+
+  -- places are those of names, in any order
+  pub record AreAffected (names : List Name) (affected : List Affected) : Type 0 where
+    pub each : (n : Name) → Contains names n → (a : Affected) × Contains affected a × IsAffected n a
+    pub no_other : (a : Affected) → Contains affected a → (n : Name) × Contains names n × IsAffected n a

@@ -1,3 +1,4 @@
+pub mod Among
 pub mod Around
 pub mod Locality
 pub mod Affected
@@ -7,5 +8,6 @@ pub mod Renewal
 pub mod RenewalLaws
 pub mod Standing
 pub mod Places
+pub mod Passing
 pub mod AffectedPlaces
 pub mod Renewals

@@ -10,7 +10,7 @@ use Rattle.zone_proto.specs.Types.{NSEC3}
 use Rattle.zone_map.specs.Zones.{Sets, set_at, owns, owners}
 use Rattle.zone_denial.specs.Nsec3Names.{nsec3_names}
 use Rattle.zone_denial.specs.Nsec3Zones.{HasDistinctDigests}
-use Rattle.update_in_place.specs.Parts.{is_among}
+use Rattle.hashed_changes.specs.Among.{is_among}
 use Rattle.hashed_changes.specs.Affected.{HaveChanges, is_affected}
 use Rattle.hashed_changes.specs.Around.{nearest_around}
 

@@ -12,7 +12,7 @@ use Rattle.zone_denial.specs.Nsec3Circle.{nsec3_types}
 use Rattle.zone_denial.specs.Nsec3Names.{nsec3_names}
 use Rattle.zone_denial.specs.Nsec3Sets.{nsec3_set_at}
 use Rattle.zone_denial.specs.Nsec3Zones.{IsNsec3Zone}
-use Rattle.update_in_place.specs.Parts.{is_among}
+use Rattle.hashed_changes.specs.Among.{is_among}
 use Rattle.hashed_changes.specs.Affected.{HaveChanges, is_affected}
 use Rattle.hashed_changes.specs.Locality.{OwnsSame}
 use Rattle.hashed_changes.specs.Renewal.{renewed, nsec3_records, IsRenewed, IsChange}

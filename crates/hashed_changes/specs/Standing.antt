@@ -12,7 +12,8 @@ use Rattle.zone_map.specs.Zones.{Sets}
 use Rattle.zone_denial.specs.Nsec3Circle.{first_nsec3}
 use Rattle.zone_denial.specs.Nsec3Sets.{nsec3_set_at}
 use Rattle.zone_denial.specs.Nsec3Zones.{HasDistinctDigests}
-use Rattle.update_in_place.specs.Parts.{is_among}
+use Rattle.zone_trimming.specs.Trimming.{trimmed_set}
+use Rattle.hashed_changes.specs.Among.{is_among}
 use Rattle.hashed_changes.specs.Affected.{HaveChanges, is_affected}
 use Rattle.hashed_changes.specs.Renewal.{nsec3_records, IsChange, IsOfEither}
 
@@ -37,7 +38,7 @@ pub data IsFollowed (origin : Name) (m : Sets) (some : List Name) : Name → Lis
 abbrev pub IsHashedWith : Name → Sets → Sets → Bool → List Name → Name → Type 0
 IsHashedWith origin m after opt_out names n = IsOfEither origin m after opt_out n ⊎ Contains names n
 
--- one zone is changed into another whose NSEC3 sets stand as they were made for the one before
+-- one zone is changed into another whose NSEC3 sets stand as they were made for the one before, with trimmed lists
 pub record IsStanding (origin : Name) (m after : Sets) (keys : List RrKey) (names : List Name) (hash : Name → Option (List ℕ)) (parameters : Nsec3Parameters) (ttl serial : ℕ) : Type 0 where
   -- sets came or went under these keys
   pub told : HaveChanges keys m after
@@ -45,7 +46,7 @@ pub record IsStanding (origin : Name) (m after : Sets) (keys : List RrKey) (name
   pub named : (n : Name) → IsTrue (is_affected origin after keys n) → IsTrue (is_among names n)
   -- the hash tells these and those that get NSEC3 sets before it or after it apart
   pub apart : HasDistinctDigests (IsHashedWith origin m after parameters.opt_out names) hash
-  pub stood : (o : Name) → nsec3_records after o ≡ option_map (λ (s : RRset). s.records) (nsec3_set_at origin m hash parameters ttl serial o)
+  pub stood : (o : Name) → nsec3_records after o ≡ option_map (λ (s : RRset). s.records) (option_map trimmed_set (nsec3_set_at origin m hash parameters ttl serial o))
 
 -- that is such a change
 abbrev pub StandingIsChange : Type 0

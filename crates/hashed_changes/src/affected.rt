@@ -3,7 +3,7 @@ ghost use Rattle.std.specs.Prelude.{◌≡◌, ◌++◌, ◌∷◌, [], ◌==◌
 ghost use Rattle.std.specs.List.Sorted.{IsStrictlySortedBy};
 ghost use Rattle.zone_proto.specs.Names.{Name, name_cmp, is_above, is_at_or_above};
 ghost use Rattle.zone_map.specs.Zones.{names_of};
-ghost use Rattle.update_in_place.specs.Parts.{is_among};
+ghost use Rattle.hashed_changes.specs.Among.{is_among};
 ghost use Rattle.hashed_changes.specs.Affected.{is_affected, makes_cut};
 ghost use Rattle.hashed_changes.specs.AffectedNames.{affected_by, all_affected, with_ancestors};
 

@@ -1,7 +1,9 @@
 //! The names that a change affects, hashed.
 ghost use Rattle.std.specs.Prelude.{◌≡◌, ◌++◌, ◌∷◌, [], Some, map, option_map, IfOk, OnOk};
+ghost use Rattle.std.specs.List.Sorted.{IsPermutation};
 ghost use Rattle.zone_denial.specs.Nsec3Zones.{hash_with};
-ghost use Rattle.hashed_changes.specs.AffectedPlaces.{AreAffected, IsAffected, types_of_set};
+ghost use Rattle.hashed_changes.specs.AffectedPlaces.{AreAffected, AreInTurn, IsAffected, types_of_set};
+ghost use Rattle.hashed_changes.specs.Places.{AreInOrder};
 
 use crate::named::gets_set;
 use crate::places::{Affected, place_of};
@@ -11,7 +13,8 @@ use std::alloc::Global;
 use zone_map::RecordMap;
 use zone_proto::{LowerName, NSEC3PARAM, Nsec3Hash, ProtoError, RecordType, Seq};
 
-/// The places of these names, in order, each with its types if it gets an NSEC3 set.
+/// The places of these names in the order of their owners, each with its types if it gets an NSEC3 set.
+#[tactic(auto, using(crate::proofs::AffectedPlaces::sorted_places))]
 pub(crate) fn affected_places<H: Nsec3Hash>(
     alloc: Global,
     zone: &RecordMap,
@@ -20,7 +23,34 @@ pub(crate) fn affected_places<H: Nsec3Hash>(
     hash: &H,
     parameters: &NSEC3PARAM,
 ) -> Result<Vec<Affected>, RenewFault>
-    ensures { IfOk result (λ places. AreAffected origin.now zone.now
+    ensures places { IfOk result (λ places. AreAffected origin.now zone.now
+        (hash_with (H.digest_of hash.now) parameters.now) parameters.now.opt_out names.now
+        places.items) }
+    ensures order { IfOk result (λ places. AreInOrder places.items) }
+{
+    let mut places = places_in_turn(alloc, zone, origin, names, hash, parameters)?;
+    put_in_order(&mut places);
+    Ok(places)
+}
+
+/// Sorts places by their owners. Takes no memory.
+fn put_in_order(places: &mut Vec<Affected>)
+    ensures permutation { IsPermutation places.old.items places.new.items }
+    ensures order { AreInOrder places.new.items }
+{
+    places.sort_unstable_by(|one, other| one.place.owner.cmp(&other.place.owner));
+}
+
+/// The places of these names, one for one.
+fn places_in_turn<H: Nsec3Hash>(
+    alloc: Global,
+    zone: &RecordMap,
+    origin: &LowerName,
+    names: &[LowerName],
+    hash: &H,
+    parameters: &NSEC3PARAM,
+) -> Result<Vec<Affected>, RenewFault>
+    ensures { IfOk result (λ places. AreInTurn origin.now zone.now
         (hash_with (H.digest_of hash.now) parameters.now) parameters.now.opt_out names.now
         places.items) }
 {

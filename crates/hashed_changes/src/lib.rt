@@ -4,6 +4,7 @@
 
 mod affected;
 mod affecting;
+mod around;
 mod authority;
 mod entries;
 mod hashes;
@@ -18,5 +19,4 @@ pub mod types;
 pub use affected::affected_names;
 pub use hashes::{RenewedHashes, renewed_hashes};
 pub use named::gets_set;
-pub use nearest::nearest_owner;
 pub use renew_fault::RenewFault;

@@ -3,7 +3,7 @@ ghost use Rattle.std.specs.Prelude.{◌≡◌, ◌==◌, ◌||◌, IfOk, IsOkUnl
 ghost use Rattle.std.specs.List.{list_all};
 ghost use Rattle.zone_proto.specs.Types.{NS, NSEC3 as nsec3_type};
 ghost use Rattle.zone_denial.specs.Nsec3Names.{is_unsigned_delegation, nsec3_names};
-ghost use Rattle.update_in_place.specs.Parts.{is_among};
+ghost use Rattle.hashed_changes.specs.Among.{is_among};
 ghost use Rattle.hashed_changes.specs.Counting.{counts, has_counted, is_left_out};
 
 use crate::authority::{is_at_or_above, is_authoritative};

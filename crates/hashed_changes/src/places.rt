@@ -1,13 +1,14 @@
-//! Digests with their owners, and which of them comes next after an owner.
-ghost use Rattle.std.specs.Prelude.{◌≡◌, Some, None, map, option_map, option_copied, IfOk, IfSome, IfNone, IsOkUnless};
+//! Digests with their owners, in the order of these, and which of them comes next after an owner.
+ghost use Rattle.std.specs.Prelude.{◌≡◌, ◌++◌, ◌∷◌, [], Some, None, List, map, option_map, option_copied, IfOk, OnOk, IfSome, IfNone, IsOkUnless};
 ghost use Rattle.zone_proto.specs.HashedOwners.{hashed_owner};
 ghost use Rattle.zone_proto.specs.Names.{name_cmp};
 ghost use Rattle.zone_denial.specs.Covering.{covers};
-ghost use Rattle.hashed_changes.specs.Places.{places_of, comes_before, IsNextPlace};
+ghost use Rattle.hashed_changes.specs.Among.{is_among};
+ghost use Rattle.hashed_changes.specs.Places.{fresh_places, owners_of, places_of, comes_before, AreInOrder, ArePlacesInOrder, IsNextPlace};
 ghost use Rattle.hashed_changes.specs.Standing.{said, said_next, IsFollowed};
 
-use crate::nearest::is_among;
 use crate::renew_fault::RenewFault;
+use std::alloc::Global;
 use zone_denial::chain_sets::first_nsec3;
 use zone_denial::nsec3_sets::hashed_owner;
 use zone_map::RecordMap;
@@ -75,26 +76,38 @@ fn said_next(
     }
 }
 
-/// The first place by which an owner is followed that is none of some, by what the NSEC3 sets say. None where one of them says nothing, or where
-/// they lead past more than some.
+/// Whether a name is the owner of one of these places. It halves them.
+pub(crate) fn is_moved(affected: &[Affected], name: &LowerName) -> bool
+    requires { AreInOrder affected.now }
+    ensures { result ≡ is_among (owners_of affected.now) name.now }
+{
+    match affected.binary_search_by(|one| one.place.owner.cmp(name)) {
+        Ok(_) => true,
+        Err(_) => false,
+    }
+}
+
+/// The first place by which an owner is followed that is none of the affected ones, by what the NSEC3 sets say. None where one of them says nothing,
+/// or where they lead past more than these.
 pub(crate) fn kept_after(
     zone: &RecordMap,
     origin: &LowerName,
-    some: &[LowerName],
+    affected: &[Affected],
     owner: &LowerName,
 ) -> Result<Option<Place>, RenewFault>
+    requires { AreInOrder affected.now }
     ensures followed { IfOk result (λ found. IfSome found
-        (λ p. IsFollowed origin.now zone.now some.now owner.now p.digest)) }
+        (λ p. IsFollowed origin.now zone.now (owners_of affected.now) owner.now p.digest)) }
     ensures owner { IfOk result
         (λ found. IfSome found (λ p. p.owner ≡ hashed_owner origin.now p.digest)) }
 {
     let mut at = owner.clone()?;
-    for _ in 0..some.len().saturating_add(1) {
+    for _ in 0..affected.len().saturating_add(1) {
         let found = said_next(zone, origin, &at)?;
         let Some(place) = found else {
             return Ok(None);
         };
-        if !is_among(some, &place.owner) {
+        if !is_moved(affected, &place.owner) {
             return Ok(Some(place));
         }
         at = place.owner;
@@ -102,20 +115,72 @@ pub(crate) fn kept_after(
     Ok(None)
 }
 
-/// The place that comes next after an owner on the circle: of this one, if there is any, and of those of the affected names that get sets.
+/// The places of the affected names that get sets, in their order. Refused by `Memory` alone.
+pub(crate) fn fresh_places(alloc: Global, affected: &[Affected]) -> Result<Vec<Place>, ProtoError>
+    ensures ok { IfOk result (λ places. places.items ≡ fresh_places affected.now) }
+    ensures err { IsOkUnless result ProtoError.Memory }
+{
+    let mut places = Vec::new(alloc);
+    for one in affected {
+        push_if_fresh(one, &mut places)?;
+    }
+    Ok(places)
+}
+
+/// Puts the place of an affected name behind others, if the name gets a set. Refused by `Memory` alone.
+#[tactic(auto, using(crate::proofs::InOrder::put_behind, crate::proofs::InOrder::not_put))]
+fn push_if_fresh(one: &Affected, places: &mut Vec<Place>) -> Result<(), ProtoError>
+    ensures ok { OnOk result
+        (places.new.items ≡ places.old.items ++ fresh_places (one.now ∷ [])) }
+    ensures err { IsOkUnless result ProtoError.Memory }
+{
+    if one.types.is_some() {
+        let owner = one.place.owner.clone()?;
+        let digest = one.place.digest.clone()?;
+        places.push(Place { owner, digest })?;
+    }
+    Ok(())
+}
+
+/// The place that comes next after an owner on the circle: of this one, if there is any, and of those of the affected names that get sets. It halves
+/// these.
 pub(crate) fn next_of<'p>(
     kept: Option<&'p Place>,
-    affected: &'p [Affected],
+    fresh: &'p [Place],
     owner: &LowerName,
 ) -> Option<&'p Place>
-    ensures { IsNextPlace owner.now (places_of (option_copied kept.entry) affected.now)
+    requires { ArePlacesInOrder fresh.now }
+    ensures { IsNextPlace owner.now (places_of (option_copied kept.entry) fresh.now)
         (option_copied result) }
 {
-    let mut next = kept;
-    for one in affected {
-        if one.types.is_some() && comes_before(owner, &one.place, next) {
-            next = Some(&one.place);
-        }
+    let next = next_among(fresh, owner);
+    match kept {
+        Some(place) => first_of(owner, place, next),
+        None => next,
+    }
+}
+
+/// The place that comes next after an owner on the circle of some.
+fn next_among<'p>(places: &'p [Place], owner: &LowerName) -> Option<&'p Place>
+    requires { ArePlacesInOrder places.now }
+    ensures { IsNextPlace owner.now places.now (option_copied result) }
+{
+    let after = places.partition_point(|place| &place.owner <= owner);
+    if after < places.len() {
+        return Some(&places[after]);
+    }
+    places.first()
+}
+
+/// Of a place, and of others of which this one comes next after an owner, if there are any, the one that does so.
+#[tactic(auto, using(crate::proofs::NextPlaces::comes_first, crate::proofs::NextPlaces::comes_later))]
+fn first_of<'p>(owner: &LowerName, place: &'p Place, next: Option<&'p Place>) -> Option<&'p Place>
+    ensures { (others : List Place)
+        → IsNextPlace owner.now others (option_copied next.entry)
+        → IsNextPlace owner.now (place.now ∷ others) (option_copied result) }
+{
+    if comes_before(owner, place, next) {
+        return Some(place);
     }
     next
 }

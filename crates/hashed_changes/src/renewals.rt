@@ -1,13 +1,13 @@
 //! What the NSEC3 sets say that a change of a zone makes others.
-ghost use Rattle.std.specs.Prelude.{◌≡◌, ◌++◌, ◌∷◌, [], Some, map, option_copied, IfOk, OnOk};
+ghost use Rattle.std.specs.Prelude.{◌≡◌, ◌++◌, ◌∷◌, [], Some, map, option_copied, IfOk, OnOk, IfSome};
 ghost use Rattle.std.specs.List.{Contains};
-ghost use Rattle.zone_proto.specs.HashedOwners.{hashed_owner};
+ghost use Rattle.hashed_changes.specs.Passing.{IsPassed};
+ghost use Rattle.hashed_changes.specs.Places.{fresh_places, owners_of, AreInOrder, ArePlacesInOrder};
 ghost use Rattle.hashed_changes.specs.Renewal.{with_all_nearest, with_nearest};
-ghost use Rattle.hashed_changes.specs.Renewals.{AreRight, IsLinked, LinksAffected, LinksNearest, owners_of};
-ghost use Rattle.hashed_changes.specs.Standing.{IsFollowed};
+ghost use Rattle.hashed_changes.specs.Renewals.{AreRight, IsLinked, LinksAffected, LinksNearest};
 
-use crate::nearest::nearest_owner;
-use crate::places::{Affected, Place, kept_after, next_of, said};
+use crate::around::{Passed, pass};
+use crate::places::{Affected, Place, fresh_places, next_of, said};
 use crate::renew_fault::RenewFault;
 use std::alloc::Global;
 use zone_map::RecordMap;
@@ -34,60 +34,64 @@ pub(crate) fn renewals(
     origin: &LowerName,
     affected: &[Affected],
 ) -> Result<Vec<Renewal>, RenewFault>
+    requires { AreInOrder affected.now }
     ensures owners { IfOk result (λ made. map (λ r. r.owner) made.items
         ≡ with_all_nearest zone.now (owners_of affected.now)) }
     ensures right { IfOk result (λ made. AreRight origin.now zone.now affected.now made.items) }
 {
-    let owners = owners_of(alloc, affected)?;
+    let fresh = fresh_places(alloc, affected)?;
     let mut made = Vec::new(alloc);
+    let mut last = None;
     for one in affected {
-        push_renewals(zone, origin, owners.as_slice(), affected, one, &mut made)?;
+        let passed = push_renewals(
+            zone,
+            origin,
+            affected,
+            fresh.as_slice(),
+            last,
+            one,
+            &mut made,
+        )?;
+        last = Some(passed);
     }
     Ok(made)
 }
 
-/// The owners of these places. Refused by `Memory` alone.
-fn owners_of(alloc: Global, affected: &[Affected]) -> Result<Vec<LowerName>, ProtoError>
-    ensures { IfOk result (λ owners. owners.items ≡ owners_of affected.now) }
-{
-    let mut owners = Vec::new(alloc);
-    for one in affected {
-        owners.push(one.place.owner.clone()?)?;
-    }
-    Ok(owners)
-}
-
-/// Puts what the sets say of an affected name and of the nearest owner before it behind others.
+/// Puts what the sets say of an affected name and of the nearest owner before it behind others, if another name was passed last.
+#[tactic(auto, using(crate::proofs::InOrder::fresh_in_order))]
 fn push_renewals(
     zone: &RecordMap,
     origin: &LowerName,
-    owners: &[LowerName],
     affected: &[Affected],
+    fresh: &[Place],
+    last: Option<Passed>,
     one: &Affected,
     made: &mut Vec<Renewal>,
-) -> Result<(), RenewFault>
-    requires owners { owners.now ≡ owners_of affected.now }
+) -> Result<Passed, RenewFault>
+    requires order { AreInOrder affected.now }
+    requires fresh { fresh.now ≡ fresh_places affected.now }
+    requires last { IfSome last (IsPassed origin.now zone.now (owners_of affected.now)) }
     requires one { Contains affected.now one.now }
+    ensures passed { IfOk result (IsPassed origin.now zone.now (owners_of affected.now)) }
     ensures owners { OnOk result (map (λ r. r.owner) made.new.items
         ≡ map (λ r. r.owner) made.old.items
-        ++ with_nearest zone.now owners.now one.now.place.owner) }
+        ++ with_nearest zone.now (owners_of affected.now) one.now.place.owner) }
     ensures right { OnOk result (AreRight origin.now zone.now affected.now made.old.items
         → AreRight origin.now zone.now affected.now made.new.items) }
 {
-    let found = nearest_owner(zone, owners, &one.place.owner);
-    match found {
-        Some(nearest) => {
-            let kept = kept_place(zone, origin, owners, nearest)?;
-            let own = renewal_of(Some(&kept), affected, one)?;
+    let passed = pass(zone, origin, affected, last, one)?;
+    match &passed.around {
+        Some(around) => {
+            let own = renewal_of(Some(&around.kept), fresh, one)?;
             push(made, own)?;
-            let before = renewal_before(zone, &kept, affected, nearest)?;
+            let before = renewal_before(zone, &around.kept, fresh, &around.nearest)?;
             push(made, before)?;
-            Ok(())
+            Ok(passed)
         }
         None => {
-            let own = renewal_of(None, affected, one)?;
+            let own = renewal_of(None, fresh, one)?;
             push(made, own)?;
-            Ok(())
+            Ok(passed)
         }
     }
 }
@@ -100,38 +104,17 @@ fn push(made: &mut Vec<Renewal>, renewal: Renewal) -> Result<(), ProtoError>
     Ok(())
 }
 
-/// The place by which an owner is followed that is none of some.
-fn kept_place(
-    zone: &RecordMap,
-    origin: &LowerName,
-    owners: &[LowerName],
-    nearest: &LowerName,
-) -> Result<Place, RenewFault>
-    ensures followed { IfOk result
-        (λ p. IsFollowed origin.now zone.now owners.now nearest.now p.digest) }
-    ensures owner { IfOk result (λ p. p.owner ≡ hashed_owner origin.now p.digest) }
-{
-    let found = kept_after(zone, origin, owners, nearest)?;
-    match found {
-        Some(place) => Ok(place),
-        None => Err(RenewFault::Unclosed),
-    }
-}
-
 /// What the set of an affected name says.
-fn renewal_of(
-    kept: Option<&Place>,
-    affected: &[Affected],
-    one: &Affected,
-) -> Result<Renewal, RenewFault>
+fn renewal_of(kept: Option<&Place>, fresh: &[Place], one: &Affected) -> Result<Renewal, RenewFault>
+    requires { ArePlacesInOrder fresh.now }
     ensures owner { IfOk result (λ r. r.owner ≡ one.now.place.owner) }
     ensures link { IfOk result (λ r.
-        LinksAffected (option_copied kept.entry) affected.now one.now r.link) }
+        LinksAffected (option_copied kept.entry) fresh.now one.now r.link) }
 {
     let owner = one.place.owner.clone()?;
     match &one.types {
         Some(types) => {
-            let link = link_to(kept, affected, &one.place.owner, types)?;
+            let link = link_to(kept, fresh, &one.place.owner, types)?;
             Ok(Renewal {
                 owner,
                 link: Some(link),
@@ -145,17 +128,18 @@ fn renewal_of(
 fn renewal_before(
     zone: &RecordMap,
     kept: &Place,
-    affected: &[Affected],
+    fresh: &[Place],
     nearest: &LowerName,
 ) -> Result<Renewal, RenewFault>
+    requires { ArePlacesInOrder fresh.now }
     ensures owner { IfOk result (λ r. r.owner ≡ nearest.now) }
     ensures link { IfOk result (λ r.
-        LinksNearest zone.now (Some kept.now) affected.now nearest.now r.link) }
+        LinksNearest zone.now (Some kept.now) fresh.now nearest.now r.link) }
 {
     let found = said(zone, nearest)?;
     match found {
         Some(data) => {
-            let link = link_to(Some(kept), affected, nearest, &data.types)?;
+            let link = link_to(Some(kept), fresh, nearest, &data.types)?;
             Ok(Renewal {
                 owner: nearest.clone()?,
                 link: Some(link),
@@ -168,14 +152,15 @@ fn renewal_before(
 /// A link to the place that comes next after an owner, with these types.
 fn link_to(
     kept: Option<&Place>,
-    affected: &[Affected],
+    fresh: &[Place],
     owner: &LowerName,
     types: &Seq<RecordType>,
 ) -> Result<Link, RenewFault>
+    requires { ArePlacesInOrder fresh.now }
     ensures { IfOk result
-        (IsLinked (option_copied kept.entry) affected.now owner.now «types».now) }
+        (IsLinked (option_copied kept.entry) fresh.now owner.now «types».now) }
 {
-    let next = next_of(kept, affected, owner);
+    let next = next_of(kept, fresh, owner);
     match next {
         Some(place) => Ok(Link {
             next: place.digest.clone()?,

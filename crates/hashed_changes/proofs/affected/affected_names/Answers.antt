@@ -1,6 +1,6 @@
 use Rattle.std.proofs.Common.{List, ap, ◌∙◌}
 use Rattle.zone_proto.specs.Names.{Name}
-use Rattle.update_in_place.specs.Parts.{is_among}
+use Rattle.hashed_changes.specs.Among.{is_among}
 use Rattle.hashed_changes.proofs.AffectedFound.{all_found}
 use Rattle.hashed_changes.proofs.affected.affected_names.Goals as goal
 

@@ -1,6 +1,6 @@
 use Rattle.zone_denial.specs.Nsec3Zones.{hash_with}
 use Rattle.hashed_changes.proofs.AffectedPlaces.{one_more_affected}
-use Rattle.hashed_changes.proofs.affecting.affected_places.Goals as goal
+use Rattle.hashed_changes.proofs.affecting.places_in_turn.Goals as goal
 
 pub loop-name-preserved : goal.loop-name-preserved
 loop-name-preserved g c =
