@@ -1,5 +1,5 @@
 -- The sets that take the place of others are those of the zone after the change
-use Rattle.std.proofs.Common.{◌≡◌, ℕ, Bool, true, not, ◌==◌, ◌&&◌, List, ◌∷◌, sym, ap, ◌∙◌, subst}
+use Rattle.std.proofs.Common.{◌≡◌, ℕ, Bool, true, false, not, ◌==◌, ◌&&◌, List, ◌∷◌, sym, ap, ◌∙◌, subst}
 use Rattle.std.specs.Prelude.{Option, None, filter_map, option_map, option_to_list, if◌then◌else◌}
 use Rattle.std.specs.Cmp.{both_ways}
 use Rattle.zone_proto.specs.declared.rdata.denial.NSEC3PARAM.{NSEC3PARAM as Nsec3Parameters}
@@ -23,7 +23,7 @@ use Rattle.hashed_changes.specs.Renewals.{AreRight, entry_of, owners_made}
 use Rattle.hashed_changes.specs.Standing.{IsStanding}
 use Rattle.hashed_changes.proofs.AffectedPlaces.{same_owners}
 use Rattle.hashed_changes.proofs.Counted.{among_from}
-use Rattle.hashed_changes.proofs.MadeSets.{last_at-made}
+use Rattle.hashed_changes.proofs.MadeSets.{last_at-made, none_made}
 use Rattle.hashed_changes.proofs.Names.{among_in}
 
 -- the nearest owners are the same where the same owners are passed over
@@ -64,3 +64,13 @@ sets_made origin old zone keys names hash parameters ttl serial affected made le
     ∙ ap (λ (es : Sets). option_map trimmed_set (last_at es o t)) (e ∙ ap (filter_map (entry_of parameters ttl serial)) l)
     ∙ last_at-made trimmed_set parameters ttl serial (λ x. option_map trimmed_set (nsec3_set_at origin zone hash parameters ttl serial x)) made (λ r i. right r (In-Contains r made i) old keys names hash parameters ttl serial st are) o t
     ∙ ap (λ (os : List Name). if (t == NSEC3) && is_among os o then option_map trimmed_set (nsec3_set_at origin zone hash parameters ttl serial o) else None) (sym (w ∙ ap owners_made h))
+
+pub others_made : (parameters : Nsec3Parameters) (ttl serial : ℕ) (made lent held : List Renewal) (entries : Sets) (owners : List Name)
+    → lent ≡ made → entries ≡ filter_map (entry_of parameters ttl serial) lent → held ≡ made → owners ≡ owners_made held
+    → (o : Name) (t : ℕ) (s trimmed : Option RRset) → s ≡ last_at entries o t → trimmed ≡ option_map trimmed_set s → ((t == NSEC3) && is_among owners o) ≡ false → trimmed ≡ None
+others_made parameters ttl serial made lent held entries owners l e h w o t s trimmed k turned none =
+    turned
+    ∙ ap (option_map trimmed_set)
+    (k
+    ∙ ap (λ (es : Sets). last_at es o t) (e ∙ ap (filter_map (entry_of parameters ttl serial)) l)
+    ∙ none_made parameters ttl serial made o t (ap (λ (os : List Name). (t == NSEC3) && is_among os o) (sym (w ∙ ap owners_made h)) ∙ none))

@@ -22,5 +22,6 @@ mod TrimmedTwice
 mod RightSets
 mod MadeSets
 mod EntriesMade
+mod Closed
 mod RightMade
 mod HashesMade

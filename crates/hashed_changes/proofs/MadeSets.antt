@@ -105,3 +105,51 @@ module _ (change : RRset → RRset) (parameters : Nsec3Parameters) (ttl serial :
             let all = IfSome-update_all key_eq P (key o t) (λ _. None) entries tt
             (λ k d lt same. found (get_or entries k d) (all_made IsOwner made dues (λ r i. In-map (λ (x : Renewal). x.owner) r made i) k d lt) same) in
             ap (option_map change) e ∙ sym (subst (λ (p : Option RRset). IfSome p P) e all)
+
+-- ---- an entry is that of one of their owners
+
+record IsOwned (P : Name → Type 0) (e : RrKey × RRset) : Type 0 where
+  own : e.0 ≡ key e.0.name NSEC3
+  among : P e.0.name
+
+module _ (parameters : Nsec3Parameters) (ttl serial : ℕ) where
+  one_owned : (P : Name → Type 0) (r : Renewal) → P r.owner → (s : Option RRset) (e : RrKey × RRset) → option_map (λ (s : RRset). (key r.owner NSEC3, s)) s ≡ Some e → IsOwned P e
+  one_owned P r p None e q = absurd cc
+  one_owned P r p (Some s) e q =
+      let same : (key r.owner NSEC3, s) ≡ e = cc in
+      subst (IsOwned P) same (record { own = refl; among = p })
+
+  all_owned : (P : Name → Type 0) (made : List Renewal) → ((r : Renewal) → In r made → P r.owner) → All (IsOwned P) (filter_map (entry_of parameters ttl serial) made)
+  all_owned P [] h = λ i x l. absurd (omega arith)
+  all_owned P (r ∷ made) h = by (entry_of parameters ttl serial r) refl (all_owned P made (λ x i. h x (inr i)))
+    where
+      by : (o : Option (RrKey × RRset)) → entry_of parameters ttl serial r ≡ o → All (IsOwned P) (filter_map (entry_of parameters ttl serial) made) → All (IsOwned P) (cons_option o (filter_map (entry_of parameters ttl serial) made))
+      by None e ih = ih
+      by (Some x) e ih =
+          All-cons (IsOwned P) x (filter_map (entry_of parameters ttl serial) made) (one_owned P r (h r (inl refl)) (set_by parameters ttl serial r.owner r.link) x e) ih
+
+  module _ (made : List Renewal) (o : Name) (t : ℕ) where
+    abbrev target_owned : Bool
+    target_owned = (t == NSEC3) && is_among (owners_made made) o
+
+    found_owned : (e : RrKey × RRset) → IsOwned (λ n. In n (owners_made made)) e → key_eq e.0 (key o t) ≡ true → target_owned ≡ true
+    found_owned e is same =
+        let own = key_same e.0 (key o t) same in
+        let name : e.0.name ≡ o = ap (λ (k : RrKey). k.name) own in
+        let type' : t ≡ NSEC3 = sym (ap (λ (k : RrKey). k.record_type.0) own) ∙ ap (λ (k : RrKey). k.record_type.0) is.own in
+        let there : is_among (owners_made made) o ≡ true = among_from (owners_made made) o (subst (λ x. In x (owners_made made)) name is.among) in
+        λ i. eq-eqb t NSEC3 type' i && there i
+
+    -- so none is found for another owner or type
+    pub none_made : target_owned ≡ false → last_at (filter_map (entry_of parameters ttl serial) made) o t ≡ None
+    none_made f = by (last_at (filter_map (entry_of parameters ttl serial) made) o t) refl
+      where
+        by : (p : Option RRset) → last_at (filter_map (entry_of parameters ttl serial) made) o t ≡ p → last_at (filter_map (entry_of parameters ttl serial) made) o t ≡ None
+        by None e = e
+        by (Some v) e =
+            let P = λ (w : RRset). target_owned ≡ true in
+            let all = IfSome-update_all key_eq P (key o t) (λ _. None) (filter_map (entry_of parameters ttl serial) made) tt
+            (λ k d lt same. found_owned (get_or (filter_map (entry_of parameters ttl serial) made) k d)
+            (all_owned (λ n. In n (owners_made made)) made (λ r i. In-map (λ (x : Renewal). x.owner) r made i) k d lt) same) in
+            let there : target_owned ≡ true = subst (λ (p : Option RRset). IfSome p P) e all in
+            absurd (true≢false (sym there ∙ f))

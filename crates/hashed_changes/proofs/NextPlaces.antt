@@ -41,7 +41,7 @@ from_covers d x y e = by (either (is_before name_cmp d y && is_before name_cmp y
         of (and_left (is_upto name_cmp x d) (is_before name_cmp d y || is_before name_cmp y x) h)
         (either (is_before name_cmp d y) (is_before name_cmp y x) (and_right (is_upto name_cmp x d) (is_before name_cmp d y || is_before name_cmp y x) h))
 
-uncovered : (d x y : Name) → (Between name_order d x y → ⊥) → covers name_cmp d x y ≡ false
+pub uncovered : (d x y : Name) → (Between name_order d x y → ⊥) → covers name_cmp d x y ≡ false
 uncovered d x y none = by (covers name_cmp d x y) refl
   where
     by : (b : Bool) → covers name_cmp d x y ≡ b → b ≡ false

@@ -1,6 +1,6 @@
 -- What lies around an affected owner does so around the next one too, where no owner of NSEC3 stands between the two
 use Rattle.std.proofs.Common.{◌≡◌, Bool, true, false, not, List, [], ◌∷◌, ◌++◌, refl, sym, ap, ◌∙◌, subst, true≢false, ◌⊎◌, inl, inr, Less, is_lt}
-use Rattle.std.specs.Prelude.{Option, Some, None, filter}
+use Rattle.std.specs.Prelude.{Option, Some, None}
 use Rattle.std.specs.Cmp.{both_ways}
 use Rattle.std.specs.List.{Contains}
 use Rattle.std.specs.Option.{option_or}
@@ -11,7 +11,7 @@ use Rattle.zone_proto.specs.Order.{is_before, is_upto, greatest}
 use Rattle.zone_proto.specs.Types.{NSEC3}
 use Rattle.zone_proto.proofs.Members.{In, In-Contains, Contains-In, In-filter, In-from_filter, In-from_append, In-map, not_true}
 use Rattle.zone_proto.proofs.Names.Tree.{name_order}
-use Rattle.zone_proto.proofs.Ordering.Orders.{less_test, upto_before, upto_cases, upto_same, upto_from_not_before, before_from_upto}
+use Rattle.zone_proto.proofs.Ordering.Orders.{less_test, upto_before, upto_cases, upto_from_not_before}
 use Rattle.zone_map.specs.DenialOwners.{denial_owners_before}
 use Rattle.zone_map.specs.Zones.{Sets, owners, IsZone}
 use Rattle.zone_denial.proofs.Ascending.{Ascends-from_sorted, Ascends-apart}

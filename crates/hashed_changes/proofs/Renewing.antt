@@ -161,7 +161,7 @@ module _ (origin : Name) (m after : Sets) (keys : List RrKey) (names : List Name
       ap said_by (st.stood (owner n) ∙ ap (λ (p : Option RRset). option_map (λ (s : RRset). s.records) (option_map trimmed_set p)) (set_of_name origin m hash parameters ttl serial apart_was n i))
       ∙ ap (λ (d : List ℕ). Some (trimmed_nsec3 (nsec3_data parameters d (nsec3_types origin m n)))) (next_has_next_digest origin m hash parameters.opt_out apart_was n i)
 
-  next_name : (n : Name) → In n (named m) → (d : List ℕ) → said_next after (owner n) ≡ Some d → (k : Name) × In k (named m) × (d ≡ digest k) × ((w : Name) → In w (named m) → Between octets_order (digest n) (digest k) (digest w) → ⊥)
+  pub next_name : (n : Name) → In n (named m) → (d : List ℕ) → said_next after (owner n) ≡ Some d → (k : Name) × In k (named m) × (d ≡ digest k) × ((w : Name) → In w (named m) → Between octets_order (digest n) (digest k) (digest w) → ⊥)
   next_name n i d s =
       (r.0, r.1, is ∙ r.2, λ w j b. next.none_between (digest w) (digest_among apart_was (named m) was_named w j) (subst (λ x. Between octets_order (digest n) x (digest w)) (sym r.2) b))
     where

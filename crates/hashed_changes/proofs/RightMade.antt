@@ -3,7 +3,7 @@ use Rattle.std.proofs.Common.{◌≡◌, ℕ, suc, ◌+◌, ◌<◌, List, [], �
 use Rattle.std.specs.Prelude.{Option, Some, None, flat_map, option_map, option_to_list}
 use Rattle.std.specs.List.{Contains}
 use Rattle.std.proofs.lemmas.List.{map-append}
-use Rattle.zone_proto.specs.Names.{Name, name_cmp}
+use Rattle.zone_proto.specs.Names.{Name}
 use Rattle.zone_proto.proofs.Members.{In, In-Contains, Contains-In, In-from_append}
 use Rattle.zone_map.specs.Zones.{Sets}
 use Rattle.zone_denial.specs.Nsec3Sets.{nsec3_set_at}
@@ -12,7 +12,6 @@ use Rattle.hashed_changes.specs.declared.around.Around.{Around}
 use Rattle.hashed_changes.specs.declared.around.Passed.{Passed}
 use Rattle.hashed_changes.specs.declared.places.Place.{Place}
 use Rattle.hashed_changes.specs.declared.places.Affected.{Affected}
-use Rattle.hashed_changes.specs.declared.renewals.Link.{Link}
 use Rattle.hashed_changes.specs.declared.renewals.Renewal.{Renewal}
 use Rattle.hashed_changes.specs.Passing.{IsAround, IsPassed}
 use Rattle.hashed_changes.specs.Places.{fresh_places, owners_of}

@@ -72,7 +72,7 @@ module _ (origin : Name) (m after : Sets) (keys : List RrKey) (names : List Name
   abbrev KeptName : Name → Type 0
   KeptName n = Kept origin m after keys names hash parameters ttl serial st n
 
-  was : (n : Name) → In n (named m) → Hashed n
+  pub was : (n : Name) → In n (named m) → Hashed n
   was n i = inl (inl (In-Contains n (named m) i))
 
   is : (n : Name) → In n (named after) → Hashed n
@@ -81,7 +81,7 @@ module _ (origin : Name) (m after : Sets) (keys : List RrKey) (names : List Name
   touched : (n : Name) → In n names → Hashed n
   touched n i = inr (In-Contains n names i)
 
-  same_owners : (o : Name) → is_among (owners_of affected) o ≡ is_among moved o
+  pub same_owners : (o : Name) → is_among (owners_of affected) o ≡ is_among moved o
   same_owners = owners_are_same origin after hash parameters.opt_out names affected are
 
   name_of_place : (a : Affected) → In a affected → (n : Name) × In n names × IsAffected origin after hash parameters.opt_out n a
@@ -151,7 +151,7 @@ module _ (origin : Name) (m after : Sets) (keys : List RrKey) (names : List Name
   agree : (x z : Name) → Hashed x → Hashed z → name_cmp (owner x) (owner z) ≡ octets_cmp (digest x) (digest z)
   agree x z f g = sort_as_digests st.apart origin x z f g
 
-  to_owners : (n z w : Name) → Hashed n → Hashed z → Hashed w → Between octets_order (digest n) (digest z) (digest w) → Between name_order (owner n) (owner z) (owner w)
+  pub to_owners : (n z w : Name) → Hashed n → Hashed z → Hashed w → Between octets_order (digest n) (digest z) (digest w) → Between name_order (owner n) (owner z) (owner w)
   to_owners n z w f g h (inside l k) = inside (agree n w f h ∙ l) (agree w z h g ∙ k)
   to_owners n z w f g h (above u l) = above (ap is_le (agree z n g f) ∙ u) (agree n w f h ∙ l)
   to_owners n z w f g h (below u k) = below (ap is_le (agree z n g f) ∙ u) (agree w z h g ∙ k)
@@ -164,7 +164,7 @@ module _ (origin : Name) (m after : Sets) (keys : List RrKey) (names : List Name
       (owner_in after (owner n) NSEC3 (owner_owns origin m after keys names hash parameters ttl serial (change_of origin m after keys names hash parameters ttl serial st) (held_of origin m after keys names hash parameters ttl serial st) n k.before'))
       (ap not (same_owners (owner n) ∙ not_among_from moved (owner n) k.unmoved))
 
-  owner_kept : (o : Name) → In o (owners_besides after (owners_of affected)) → (n : Name) × KeptName n × (o ≡ owner n)
+  pub owner_kept : (o : Name) → In o (owners_besides after (owners_of affected)) → (n : Name) × KeptName n × (o ≡ owner n)
   owner_kept o i =
       let r = In-from_filter (λ w. not (is_among (owners_of affected) w)) o (owners after NSEC3) i in
       let w = name_of_owner origin m after keys names hash parameters ttl serial (change_of origin m after keys names hash parameters ttl serial st) (held_of origin m after keys names hash parameters ttl serial st) o (owner_owned after o NSEC3 r.0) in

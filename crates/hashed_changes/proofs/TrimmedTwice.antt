@@ -5,7 +5,7 @@ use Rattle.std.specs.Cmp.{both_ways}
 use Rattle.std.specs.List.{list_any}
 use Rattle.zone_proto.specs.declared.record_type.RecordType.{RecordType}
 use Rattle.zone_proto.specs.Types.{NS, CNAME, SOA, DS, RRSIG, NSEC, NSEC3}
-use Rattle.zone_proto.proofs.Members.{In, In-filter, In-from_filter, In-from_any, any_from_In, and_right, none_passes, not_true}
+use Rattle.zone_proto.proofs.Members.{In-filter, In-from_filter, In-from_any, any_from_In, and_right, not_true}
 use Rattle.zone_denial.proofs.ReadBack.{filter_all}
 use Rattle.zone_trimming.specs.Trimming.{has_type, is_of_delegation, stays_listed, trimmed_types}
 

@@ -11,3 +11,4 @@ pub mod Places
 pub mod Passing
 pub mod AffectedPlaces
 pub mod Renewals
+pub mod Faults

@@ -1,5 +1,5 @@
 //! The names that a change affects, hashed.
-ghost use Rattle.std.specs.Prelude.{◌≡◌, ◌++◌, ◌∷◌, [], Some, map, option_map, IfOk, OnOk};
+ghost use Rattle.std.specs.Prelude.{◌≡◌, ◌≢◌, ◌++◌, ◌∷◌, [], Some, map, option_map, IfErr, IfOk, OnOk};
 ghost use Rattle.std.specs.List.Sorted.{IsPermutation};
 ghost use Rattle.zone_denial.specs.Nsec3Zones.{hash_with};
 ghost use Rattle.hashed_changes.specs.AffectedPlaces.{AreAffected, AreInTurn, IsAffected, types_of_set};
@@ -27,6 +27,7 @@ pub(crate) fn affected_places<H: Nsec3Hash>(
         (hash_with (H.digest_of hash.now) parameters.now) parameters.now.opt_out names.now
         places.items) }
     ensures order { IfOk result (λ places. AreInOrder places.items) }
+    ensures unclosed { IfErr result (λ f. f ≢ RenewFault.Unclosed) }
 {
     let mut places = places_in_turn(alloc, zone, origin, names, hash, parameters)?;
     put_in_order(&mut places);
@@ -50,9 +51,10 @@ fn places_in_turn<H: Nsec3Hash>(
     hash: &H,
     parameters: &NSEC3PARAM,
 ) -> Result<Vec<Affected>, RenewFault>
-    ensures { IfOk result (λ places. AreInTurn origin.now zone.now
+    ensures places { IfOk result (λ places. AreInTurn origin.now zone.now
         (hash_with (H.digest_of hash.now) parameters.now) parameters.now.opt_out names.now
         places.items) }
+    ensures unclosed { IfErr result (λ f. f ≢ RenewFault.Unclosed) }
 {
     let mut places = Vec::new(alloc);
     for name in names {
@@ -79,8 +81,9 @@ fn affected_place<H: Nsec3Hash>(
     hash: &H,
     parameters: &NSEC3PARAM,
 ) -> Result<Affected, RenewFault>
-    ensures { IfOk result (IsAffected origin.now zone.now
+    ensures place { IfOk result (IsAffected origin.now zone.now
         (hash_with (H.digest_of hash.now) parameters.now) parameters.now.opt_out name.now) }
+    ensures unclosed { IfErr result (λ f. f ≢ RenewFault.Unclosed) }
 {
     let digest = digest_of(hash, name, parameters)?;
     let place = place_of(digest, origin)?;
@@ -94,8 +97,9 @@ fn digest_of<H: Nsec3Hash>(
     name: &LowerName,
     parameters: &NSEC3PARAM,
 ) -> Result<Seq<u8>, RenewFault>
-    ensures { IfOk result
+    ensures digest { IfOk result
         (λ d. hash_with (H.digest_of hash.now) parameters.now name.now ≡ Some d) }
+    ensures unclosed { IfErr result (λ f. f ≢ RenewFault.Unclosed) }
 {
     match hash.hash(
         parameters.algorithm,

@@ -1,9 +1,10 @@
 //! What lies around the affected owners, found of one after the other in their order: the owners between two that aren't affected have the same around them.
-ghost use Rattle.std.specs.Prelude.{◌≡◌, None, option_copied, IfOk, IfSome, IsTrue};
+ghost use Rattle.std.specs.Prelude.{◌≡◌, None, option_copied, IfErr, IfOk, IfSome, IsTrue};
 ghost use Rattle.std.specs.List.{Contains};
 ghost use Rattle.zone_proto.specs.HashedOwners.{hashed_owner};
 ghost use Rattle.zone_proto.specs.Types.{NSEC3 as nsec3_type};
 ghost use Rattle.zone_map.specs.Zones.{owners};
+ghost use Rattle.hashed_changes.specs.Faults.{IsUnclosedAt, StandsForNone};
 ghost use Rattle.hashed_changes.specs.Passing.{HasNoneBetween, IsAround, IsPassed};
 ghost use Rattle.hashed_changes.specs.Places.{owners_of, AreInOrder};
 ghost use Rattle.hashed_changes.specs.Standing.{IsFollowed};
@@ -42,6 +43,8 @@ pub(crate) fn pass(
     requires last { IfSome last (IsPassed origin.now zone.now (owners_of affected.now)) }
     ensures passed { IfOk result (IsPassed origin.now zone.now (owners_of affected.now)) }
     ensures owner { IfOk result (λ p. p.owner ≡ one.now.place.owner) }
+    ensures unclosed { IfErr result
+        (λ f. f ≡ RenewFault.Unclosed → StandsForNone origin.now zone.now affected.now) }
 {
     let around = around_next(zone, origin, affected, last, &one.place.owner)?;
     let owner = one.place.owner.clone()?;
@@ -58,7 +61,9 @@ fn around_next(
 ) -> Result<Option<Around>, RenewFault>
     requires order { AreInOrder affected.now }
     requires last { IfSome last (IsPassed origin.now zone.now (owners_of affected.now)) }
-    ensures { IfOk result (IsAround origin.now zone.now (owners_of affected.now) owner.now) }
+    ensures around { IfOk result (IsAround origin.now zone.now (owners_of affected.now) owner.now) }
+    ensures unclosed { IfErr result
+        (λ f. f ≡ RenewFault.Unclosed → StandsForNone origin.now zone.now affected.now) }
 {
     match last {
         Some(last) => around_after(zone, origin, affected, last, owner),
@@ -76,7 +81,9 @@ fn around_after(
 ) -> Result<Option<Around>, RenewFault>
     requires order { AreInOrder affected.now }
     requires last { IsPassed origin.now zone.now (owners_of affected.now) last }
-    ensures { IfOk result (IsAround origin.now zone.now (owners_of affected.now) owner.now) }
+    ensures around { IfOk result (IsAround origin.now zone.now (owners_of affected.now) owner.now) }
+    ensures unclosed { IfErr result
+        (λ f. f ≡ RenewFault.Unclosed → StandsForNone origin.now zone.now affected.now) }
 {
     if has_none_between(zone, &last.owner, owner) {
         return Ok(last.around);
@@ -101,7 +108,7 @@ fn has_none_between(zone: &RecordMap, last: &LowerName, owner: &LowerName) -> bo
 }
 
 /// What lies around an owner.
-#[tactic(auto, using(crate::proofs::Passing::none_around, crate::proofs::Passing::some_around))]
+#[tactic(auto, using(crate::proofs::Passing::none_around, crate::proofs::Passing::some_around, crate::proofs::Closed::unclosed_near))]
 fn around_of(
     zone: &RecordMap,
     origin: &LowerName,
@@ -109,7 +116,9 @@ fn around_of(
     owner: &LowerName,
 ) -> Result<Option<Around>, RenewFault>
     requires { AreInOrder affected.now }
-    ensures { IfOk result (IsAround origin.now zone.now (owners_of affected.now) owner.now) }
+    ensures around { IfOk result (IsAround origin.now zone.now (owners_of affected.now) owner.now) }
+    ensures unclosed { IfErr result
+        (λ f. f ≡ RenewFault.Unclosed → StandsForNone origin.now zone.now affected.now) }
 {
     let found = nearest_owner(zone, affected, owner);
     match found {
@@ -133,6 +142,8 @@ fn kept_place(
     ensures followed { IfOk result
         (λ p. IsFollowed origin.now zone.now (owners_of affected.now) nearest.now p.digest) }
     ensures owner { IfOk result (λ p. p.owner ≡ hashed_owner origin.now p.digest) }
+    ensures unclosed { IfErr result (λ f. f ≡ RenewFault.Unclosed
+        → IsUnclosedAt origin.now zone.now affected.now nearest.now) }
 {
     let found = kept_after(zone, origin, affected, nearest)?;
     match found {

@@ -1,5 +1,5 @@
 //! The NSEC3 sets that a change of a zone makes others, made anew.
-ghost use Rattle.std.specs.Prelude.{◌≡◌, ◌==◌, ◌&&◌, ℕ, None, option_map, if◌then◌else◌, IfOk, IsOkUnless};
+ghost use Rattle.std.specs.Prelude.{◌≡◌, ◌==◌, ◌&&◌, ℕ, false, None, option_map, if◌then◌else◌, IfErr, IfOk, IsOkUnless};
 ghost use Rattle.zone_proto.specs.Names.{Name};
 ghost use Rattle.zone_proto.specs.Types.{NSEC3 as nsec3_type};
 ghost use Rattle.zone_map.specs.Zones.{Sets, set_at};
@@ -8,6 +8,7 @@ ghost use Rattle.zone_denial.specs.Nsec3Zones.{hash_with};
 ghost use Rattle.zone_trimming.specs.Trimming.{trimmed_set};
 ghost use Rattle.hashed_changes.specs.Among.{is_among};
 ghost use Rattle.hashed_changes.specs.Affected.{is_affected};
+ghost use Rattle.hashed_changes.specs.Faults.{WereNever};
 ghost use Rattle.hashed_changes.specs.Renewal.{renewed};
 ghost use Rattle.hashed_changes.specs.Renewals.{owners_made};
 ghost use Rattle.hashed_changes.specs.Standing.{IsStanding};
@@ -69,6 +70,12 @@ pub fn renewed_hashes<H: Nsec3Hash>(
         then option_map trimmed_set (nsec3_set_at origin.now zone.now
         (hash_with (H.digest_of hash.now) parameters.now) parameters.now ttl serial o)
         else None)) }
+    ensures others { IfOk result (λ made. (o : Name) (t : ℕ)
+        → ((t == nsec3_type) && is_among made.owners.items o) ≡ false
+        → set_at made.sets o t ≡ None) }
+    ensures unclosed { IfErr result (λ fault. fault ≡ RenewFault.Unclosed
+        → WereNever origin.now zone.now keys.now
+        (hash_with (H.digest_of hash.now) parameters.now) parameters.now) }
 {
     let names = affected_names(alloc, zone, origin, keys)?;
     let affected = affected_places(alloc, zone, origin, names.as_slice(), hash, parameters)?;

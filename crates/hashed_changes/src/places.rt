@@ -1,9 +1,10 @@
 //! Digests with their owners, in the order of these, and which of them comes next after an owner.
-ghost use Rattle.std.specs.Prelude.{◌≡◌, ◌++◌, ◌∷◌, [], Some, None, List, map, option_map, option_copied, IfOk, OnOk, IfSome, IfNone, IsOkUnless};
+ghost use Rattle.std.specs.Prelude.{◌≡◌, ◌≢◌, ◌++◌, ◌∷◌, [], Some, None, List, map, option_map, option_copied, IfOk, OnOk, IfErr, IfSome, IfNone, IsOkUnless};
 ghost use Rattle.zone_proto.specs.HashedOwners.{hashed_owner};
 ghost use Rattle.zone_proto.specs.Names.{name_cmp};
 ghost use Rattle.zone_denial.specs.Covering.{covers};
 ghost use Rattle.hashed_changes.specs.Among.{is_among};
+ghost use Rattle.hashed_changes.specs.Faults.{IsUnclosedAt};
 ghost use Rattle.hashed_changes.specs.Places.{fresh_places, owners_of, places_of, comes_before, AreInOrder, ArePlacesInOrder, IsNextPlace};
 ghost use Rattle.hashed_changes.specs.Standing.{said, said_next, IsFollowed};
 
@@ -32,6 +33,7 @@ pub(crate) struct Affected {
 pub(crate) fn place_of(digest: Seq<u8>, origin: &LowerName) -> Result<Place, RenewFault>
     ensures digest { IfOk result (λ p. p.digest ≡ digest) }
     ensures owner { IfOk result (λ p. p.owner ≡ hashed_owner origin.now p.digest) }
+    ensures unclosed { IfErr result (λ f. f ≢ RenewFault.Unclosed) }
 {
     match hashed_owner(digest.as_slice(), origin) {
         Ok(owner) => Ok(Place { owner, digest }),
@@ -65,6 +67,7 @@ fn said_next(
         (λ found. option_map (λ p. p.digest) found ≡ said_next zone.now owner.now) }
     ensures owner { IfOk result
         (λ found. IfSome found (λ p. p.owner ≡ hashed_owner origin.now p.digest)) }
+    ensures unclosed { IfErr result (λ f. f ≢ RenewFault.Unclosed) }
 {
     let found = said(zone, owner)?;
     match found {
@@ -100,9 +103,12 @@ pub(crate) fn kept_after(
         (λ p. IsFollowed origin.now zone.now (owners_of affected.now) owner.now p.digest)) }
     ensures owner { IfOk result
         (λ found. IfSome found (λ p. p.owner ≡ hashed_owner origin.now p.digest)) }
+    ensures none { IfOk result (λ found. IfNone found
+        (IsUnclosedAt origin.now zone.now affected.now owner.now)) }
+    ensures unclosed { IfErr result (λ f. f ≢ RenewFault.Unclosed) }
 {
     let mut at = owner.clone()?;
-    for _ in 0..affected.len().saturating_add(1) {
+    for _step in 0..affected.len() + 1 {
         let found = said_next(zone, origin, &at)?;
         let Some(place) = found else {
             return Ok(None);

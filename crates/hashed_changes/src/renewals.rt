@@ -1,10 +1,12 @@
 //! What the NSEC3 sets say that a change of a zone makes others.
-ghost use Rattle.std.specs.Prelude.{◌≡◌, ◌++◌, ◌∷◌, [], Some, map, option_copied, IfOk, OnOk, IfSome};
+ghost use Rattle.std.specs.Prelude.{◌≡◌, ◌++◌, ◌∷◌, [], Some, map, option_copied, None, IfErr, IfOk, OnOk, IfSome, IsSome};
 ghost use Rattle.std.specs.List.{Contains};
+ghost use Rattle.hashed_changes.specs.Faults.{StandsForNone};
 ghost use Rattle.hashed_changes.specs.Passing.{IsPassed};
-ghost use Rattle.hashed_changes.specs.Places.{fresh_places, owners_of, AreInOrder, ArePlacesInOrder};
+ghost use Rattle.hashed_changes.specs.Places.{fresh_places, owners_of, places_of, AreInOrder, ArePlacesInOrder};
 ghost use Rattle.hashed_changes.specs.Renewal.{with_all_nearest, with_nearest};
 ghost use Rattle.hashed_changes.specs.Renewals.{AreRight, IsLinked, LinksAffected, LinksNearest};
+ghost use Rattle.hashed_changes.specs.Standing.{said};
 
 use crate::around::{Passed, pass};
 use crate::places::{Affected, Place, fresh_places, next_of, said};
@@ -38,6 +40,8 @@ pub(crate) fn renewals(
     ensures owners { IfOk result (λ made. map (λ r. r.owner) made.items
         ≡ with_all_nearest zone.now (owners_of affected.now)) }
     ensures right { IfOk result (λ made. AreRight origin.now zone.now affected.now made.items) }
+    ensures unclosed { IfErr result
+        (λ f. f ≡ RenewFault.Unclosed → StandsForNone origin.now zone.now affected.now) }
 {
     let fresh = fresh_places(alloc, affected)?;
     let mut made = Vec::new(alloc);
@@ -78,6 +82,8 @@ fn push_renewals(
         ++ with_nearest zone.now (owners_of affected.now) one.now.place.owner) }
     ensures right { OnOk result (AreRight origin.now zone.now affected.now made.old.items
         → AreRight origin.now zone.now affected.now made.new.items) }
+    ensures unclosed { IfErr result
+        (λ f. f ≡ RenewFault.Unclosed → StandsForNone origin.now zone.now affected.now) }
 {
     let passed = pass(zone, origin, affected, last, one)?;
     match &passed.around {
@@ -110,6 +116,8 @@ fn renewal_of(kept: Option<&Place>, fresh: &[Place], one: &Affected) -> Result<R
     ensures owner { IfOk result (λ r. r.owner ≡ one.now.place.owner) }
     ensures link { IfOk result (λ r.
         LinksAffected (option_copied kept.entry) fresh.now one.now r.link) }
+    ensures unclosed { IfErr result (λ f. f ≡ RenewFault.Unclosed
+        → IsSome one.now.types × (places_of (option_copied kept.entry) fresh.now ≡ [])) }
 {
     let owner = one.place.owner.clone()?;
     match &one.types {
@@ -135,6 +143,8 @@ fn renewal_before(
     ensures owner { IfOk result (λ r. r.owner ≡ nearest.now) }
     ensures link { IfOk result (λ r.
         LinksNearest zone.now (Some kept.now) fresh.now nearest.now r.link) }
+    ensures unclosed { IfErr result
+        (λ f. f ≡ RenewFault.Unclosed → said zone.now nearest.now ≡ None) }
 {
     let found = said(zone, nearest)?;
     match found {
@@ -157,8 +167,10 @@ fn link_to(
     types: &Seq<RecordType>,
 ) -> Result<Link, RenewFault>
     requires { ArePlacesInOrder fresh.now }
-    ensures { IfOk result
+    ensures link { IfOk result
         (IsLinked (option_copied kept.entry) fresh.now owner.now «types».now) }
+    ensures unclosed { IfErr result
+        (λ f. f ≡ RenewFault.Unclosed → places_of (option_copied kept.entry) fresh.now ≡ []) }
 {
     let next = next_of(kept, fresh, owner);
     match next {

@@ -6,4 +6,4 @@ pub loop-name-preserved : goal.loop-name-preserved
 loop-name-preserved g c =
     one_more_affected c.args.origin.now c.args.zone.now (hash_with (g.H.Nsec3Hash.digest_of c.args.hash.now) c.args.parameters.now) c.args.parameters.now.opt_out
     c.args.names.now c.loop-name.name-index c.name-item.result c.loop-name.places.items c.push.new.places.items c.in_ok-place.place
-    c.loop-name-test.true c.name-item.is c.in_ok-push.ensures c.in_ok-place.ensures c.loop-name.invariant
+    c.loop-name-test.true c.name-item.is c.in_ok-push.ensures c.in_ok-place.ensures.place c.loop-name.invariant
