@@ -1,0 +1,4 @@
+pub mod Planned
+pub mod OfNames
+pub mod Framed
+pub mod Asked
