@@ -526,8 +526,8 @@ uint32_t nk_plan_sign(nk_plan *plan, const uint8_t *signature, size_t signature_
 
 /* Puts the signed zone in place of the one that was planned, and frees the plan. If threads answer from copies of the zones, do this to a copy
  * and hand that out, as for a reload ("Threads", above).
- * NK_DONE, NK_TOO_FEW, NK_TOO_MANY, NK_BAD_SIGNATURE, NK_NO_ZONE, NK_ZONE_CHANGED, NK_NO_MEMORY, NK_NO_PLAN or NK_CLOSED; after any code but
- * NK_DONE the zones and the plan are as they were. */
+ * NK_DONE, NK_TOO_FEW, NK_TOO_MANY, NK_BAD_SIGNATURE, NK_NO_ZONE, NK_ZONE_CHANGED, NK_NO_MEMORY, NK_NO_PLAN or NK_CLOSED, and NK_BAD_ZONE as from
+ * nk_update_sign; after any code but NK_DONE the zones and the plan are as they were, but for plans that nk_update_sign may free. */
 uint32_t nk_plan_finish(nk_plan *plan, nk_zones *zones);
 
 /* Frees the plan, if there is one. Afterwards there is none. */
@@ -547,7 +547,13 @@ void nk_plan_free(nk_plan *plan);
  * serial. Signatures of the zone stay that are made of the same octets and hold from `held_from` until `held_until`; the others are asked for, that
  * of the SOA always. If the zone after the update can't be signed so, the response is SERVFAIL, and there is nothing to sign. Where a call but the
  * first gives a code that isn't named here, or the file can't be written, no zone has changed: answer SERVFAIL, or prepare the message again.
- * This call and nk_update_sign take time by the size of the zone. Where no journals are kept, nk_plan_finish may stand for the last two calls.
+ * Where no journals are kept, nk_plan_finish may stand for the last two calls.
+ *
+ * With NSEC this call and nk_update_sign take time by what the update changes, whatever else the zone has. But the first one copies the zone, as does
+ * one after an update that was prepared and given up, or while a copy (nk_zones_copy) has the version before. The plan has what changes alone, and
+ * signatures of other sets stay, whenever they end: nk_plan_begin signs the zone anew. Both take time by the size of the zone with NSEC3; where the
+ * zone isn't signed so yet, by these keys and with NSEC; where the keys at its origin change, or the TTL of denials; and for a new DNAME, or what is
+ * below one.
  *
  * What was begun before in this nk_update and this nk_plan is freed first. After NK_DONE `frame_written` is 0 where there is something to sign.
  * The codes are those of nk_update_begin, and NK_BAD_NAME, NK_BAD_KEYS, NK_BAD_DENIAL for what `zone` or `how` has, NK_BAD_ZONE for records that can't
@@ -560,8 +566,8 @@ uint32_t nk_update_prepare(nk_update *update, nk_plan *plan, nk_zones *zones, nk
  * for the zone's journal into the room for it: `frame_written` has its length. What was begun in this nk_update, and the plan, are freed. No zone
  * changes. NK_NO_ZONE or NK_ZONE_CHANGED if the zone that was updated isn't there any more, which its serial tells.
  * After NK_NO_PLAN everything is as it was: the update of a zone that isn't signed is there to be committed, and its frame is in the room. After any
- * other code but NK_DONE the plan is as it was, and no update is begun; after NK_NO_ROOM `frame_written` says how many octets are needed, and else
- * it is 0.
+ * other code but NK_DONE no update is begun, and the plan is as it was, but after NK_NO_MEMORY and NK_BAD_ZONE it may be freed: prepare the message
+ * again. After NK_NO_ROOM `frame_written` says how many octets are needed, and else it is 0.
  * NK_DONE, NK_NO_PLAN, NK_TOO_FEW, NK_TOO_MANY, NK_BAD_SIGNATURE, NK_NO_ZONE, NK_ZONE_CHANGED, NK_BAD_ZONE, NK_NO_ROOM, NK_NO_MEMORY or NK_CLOSED. */
 uint32_t nk_update_sign(nk_update *update, nk_plan *plan, nk_zones *zones, uint8_t *frame, size_t frame_length, size_t *frame_written);
 

@@ -121,7 +121,11 @@ static int signed_updates(int kind, const char *folder) {
     for (long nth = 1; left = nth, code = prepare_names(&zones, kind, &written), left = -1, code != NK_DONE || (room[3] & 15); nth++, refused++)
         IS((code == NK_NO_MEMORY ? !written : code == NK_DONE && (room[3] & 15) == 2) && !framed && sign_update(&zones, sizeof frame) == NK_NO_PLAN);   /* SERVFAIL */
     IS(room[2] == 168 && room[11] == 1 && !framed && (asked = sign_all(&plan, 0)) > 3);
-    for (long nth = 1; left = nth, code = sign_update(&zones, sizeof frame), left = -1, code != NK_DONE; nth++, refused++) IS(code == NK_NO_MEMORY && !framed && nk_update_commit(&one, &zones) == NK_NO_PLAN);
+    for (long nth = 1; left = nth, code = sign_update(&zones, sizeof frame), left = -1, code != NK_DONE; nth++, refused++) {
+        IS(code == NK_NO_MEMORY && !framed && nk_update_commit(&one, &zones) == NK_NO_PLAN);
+        /* With NSEC the plan may be freed: the update is prepared again. */
+        IS((code = nk_plan_next(&plan, &(uint32_t){0}, room, sizeof room, &written)) == NK_NO_MORE || (!kind && code == NK_NO_PLAN && prepare_names(&zones, kind, &written) == NK_DONE && sign_all(&plan, 0) == asked));
+    }
     IS(framed > 200 && sign_update(&zones, sizeof frame) == NK_NO_PLAN && has_serial(&zones, 8) && is_answered(&zones, "new", 3, 0, signings[kind].before));
     memcpy(journal, frame, length = framed);
     IS(nk_update_commit(&one, &zones) == NK_DONE && has_serial(&zones, 9) && has_serial(&third, 8) && nk_update_commit(&one, &zones) == NK_NO_PLAN);

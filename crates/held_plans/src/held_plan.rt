@@ -106,6 +106,23 @@ impl HeldPlan {
         }
     }
 
+    /// The same of a copy of a plan, which stays as it is.
+    pub fn of_copy(
+        alloc: Global,
+        origin: LowerName,
+        serial: u32,
+        plan: &Plan,
+    ) -> Result<HeldPlan, PlanFault>
+        ensures made { IfOk result (λ held. held
+            ≡ made_plan origin serial plan.now.records plan.now.keys.items) }
+        ensures fault { IfErr result (λ e. IsUnwritableUnless e (AreSignable plan.now.records)) }
+    {
+        match plan_again(alloc, plan) {
+            Ok(copy) => HeldPlan::of_plan(alloc, origin, serial, copy),
+            Err(_) => Err(PlanFault::Memory),
+        }
+    }
+
     /// The origin of the zone.
     pub fn origin(&self) -> &LowerName
         ensures { result.now ≡ self.now.origin }
@@ -149,6 +166,13 @@ impl HeldPlan {
         }
     }
 
+    /// The signatures that were given, in order.
+    pub fn signatures(&self) -> &[Seq<u8>]
+        ensures { result.now ≡ self.now.signatures }
+    {
+        self.signatures.as_slice()
+    }
+
     /// The sets of the zone with the signatures that were given. The plan stays as it is, since what is done with them may be refused.
     ///
     /// # Errors
@@ -161,21 +185,11 @@ impl HeldPlan {
         ensures fault { IfErr result (λ e. (e ≡ FinishFault.Memory)
             ⊎ (unfinished_fault self.now ≡ Some e)) }
     {
-        let plan = self.plan_again(alloc)?;
+        let plan = plan_again(alloc, &self.plan)?;
         match finish(alloc, plan, self.signatures.as_slice()) {
             Ok(records) => Ok(records.compacted(alloc)?),
             Err(unfinished) => Err(unfinished.fault),
         }
-    }
-
-    /// The plan once more. Its only error is `Memory`.
-    fn plan_again(&self, alloc: Global) -> Result<Plan, ProtoError>
-        ensures records { IfOk result (λ plan. plan.records ≡ self.now.records) }
-        ensures keys { IfOk result (λ plan. plan.keys.items ≡ self.now.keys) }
-    {
-        let keys = keys_again(alloc, self.plan.keys.as_slice())?;
-        let records = copy_of(alloc, &self.plan.records)?;
-        Ok(Plan { records, keys })
     }
 }
 
@@ -190,6 +204,16 @@ pub fn serial_under(records: &RecordMap, key: &RrKey) -> u32
         Some(soa) => soa.serial,
         None => 0,
     }
+}
+
+/// A plan once more. Its only error is `Memory`.
+fn plan_again(alloc: Global, plan: &Plan) -> Result<Plan, ProtoError>
+    ensures records { IfOk result (λ copy. copy.records ≡ plan.now.records) }
+    ensures keys { IfOk result (λ copy. copy.keys.items ≡ plan.now.keys.items) }
+{
+    let keys = keys_again(alloc, plan.keys.as_slice())?;
+    let records = copy_of(alloc, &plan.records)?;
+    Ok(Plan { records, keys })
 }
 
 /// Copies of keys. Its only error is `Memory`.

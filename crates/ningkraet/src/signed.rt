@@ -5,7 +5,7 @@ ghost use Rattle.journal_calls.specs.Plans.{room};
 ghost use Rattle.plan_calls.specs.Outcomes.{Codes};
 ghost use Rattle.signed_calls.specs.Outcomes.{Codes as PrepareCodes};
 ghost use Rattle.signed_calls.specs.Preparing.{PreparesHeld, rooms};
-ghost use Rattle.signed_calls.specs.Signing.{SignsHeld};
+ghost use Rattle.signed_calls.specs.Held.{SignsHeld};
 
 use arrival_calls::ClientMessage;
 use journal_calls::PlannedHandle;

@@ -1,2 +1,3 @@
 pub mod CallFacts
+pub mod VersionFacts
 pub mod Steps

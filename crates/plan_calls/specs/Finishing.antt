@@ -1,5 +1,5 @@
 -- The zone of a plan whose signatures were given, among others
-use Rattle.std.specs.Prelude.{◌≡◌, ◌≢◌, List, Some, None}
+use Rattle.std.specs.Prelude.{◌≡◌, ◌≢◌, ◌⊎◌, List, Option, Some, None}
 use Rattle.std.specs.List.{find}
 use Rattle.zone_lookup.specs.StartOfAuthority as authority
 use Rattle.zone_database.specs.declared.zone.Zone.{Zone}
@@ -8,7 +8,9 @@ use Rattle.zone_database.specs.Zones.{zone_of_records}
 use Rattle.held_plans.specs.Holding.{finished_sets, unfinished_fault}
 use Rattle.held_plans.specs.PlanStates.{PlanState}
 use Rattle.plan_calls.specs.declared.outcome.PlanOutcome.{PlanOutcome}
-use Rattle.plan_calls.specs.declared.outcome.PlanOutcome.TheVariants.{NoMemory, NoZone, ZoneChanged, Unfinished}
+use Rattle.plan_calls.specs.declared.outcome.PlanOutcome.TheVariants.{Done, NoMemory, NoZone, ZoneChanged, Unfinished}
+use Rattle.plan_calls.specs.declared.signing_plan.SigningPlan.{SigningPlan}
+use Rattle.plan_calls.specs.SigningPlans.{whole}
 
 -- the zone of the planned sets with the signatures that were given, which nobody signs here
 abbrev pub finished_zone : PlanState → Zone
@@ -46,3 +48,8 @@ IsUnfinished p zs ZoneChanged = IsChanged p zs ZoneChanged
 IsUnfinished p zs (Unfinished f) = IsUnfinishedBy p (Unfinished f)
 IsUnfinished p zs NoMemory = Unit {0}
 IsUnfinished p zs outcome = ⊥
+
+-- the whole zone of a plan is in its place, and the plan is given back; or it is refused, and the plan stays
+abbrev pub FinishesWhole : PlanState → List Zone → PlanOutcome → Option SigningPlan → List Zone → Type 0
+FinishesWhole p zs outcome plan new =
+    ((outcome ≡ Done) × IsFinished p zs new × (plan ≡ None)) ⊎ (IsUnfinished p zs outcome × (new ≡ zs) × (plan ≡ Some (whole p)))

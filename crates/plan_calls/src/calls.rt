@@ -2,13 +2,15 @@
 ghost use Rattle.std.specs.Prelude.{◌≡◌, ◌⊎◌, None, Some};
 ghost use Rattle.zone_database.specs.Databases.{zones_in};
 ghost use Rattle.plan_calls.specs.Asking.{GivesNext, TakesSignature};
-ghost use Rattle.plan_calls.specs.Calls.{BeginsHeld, FinishesHeld, GivesHeld, IsBegunIn, IsInstalled, TakesHeld};
+ghost use Rattle.plan_calls.specs.Calls.{BeginsHeld, FinishesHeld, GivesHeld, IsBegunIn, TakesHeld};
+ghost use Rattle.plan_calls.specs.SigningPlans.{whole};
 
 use crate::beginning::begun;
-use crate::finishing::install;
 use crate::handle::PlanHandle;
+use crate::installing::finish_held;
 use crate::outcome::PlanOutcome;
 use crate::signing::Signing;
+use crate::signing_plan::{PlannedZone, SigningPlan};
 use call_handles::{Handle, write_front};
 use held_plans::HeldPlan;
 use std::alloc::Global;
@@ -61,11 +63,15 @@ fn begin_in(
     }
 }
 
-/// Has a handle hold a plan, in place of what it holds; `NoMemory` leaves that.
+/// Has a handle hold a plan of a whole zone, in place of what it holds; `NoMemory` leaves that.
 fn put_plan(alloc: Global, plan: &mut PlanHandle, held: HeldPlan) -> PlanOutcome
-    ensures { ((result ≡ PlanOutcome.Done) × (plan.new.held ≡ Some held))
+    ensures { ((result ≡ PlanOutcome.Done) × (plan.new.held ≡ Some (whole held)))
         ⊎ ((result ≡ PlanOutcome.NoMemory) × (plan.new.held ≡ plan.old.held)) }
 {
+    let held = SigningPlan {
+        plan: held,
+        zone: PlannedZone::Whole,
+    };
     match Box::new(alloc, held) {
         Ok(held) => {
             plan.put(held);
@@ -96,7 +102,7 @@ pub fn next(
 {
     match plan.take(alloc) {
         Some(mut held) => {
-            let outcome = hand_out(&mut held, number, buffer, written);
+            let outcome = hand_out(&mut held.plan, number, buffer, written);
             plan.put(held);
             outcome
         }
@@ -147,7 +153,7 @@ pub fn sign(alloc: Global, plan: &mut PlanHandle, signature: &[u8]) -> PlanOutco
 {
     match plan.take(alloc) {
         Some(mut held) => {
-            let outcome = take_in(alloc, &mut held, signature);
+            let outcome = take_in(alloc, &mut held.plan, signature);
             plan.put(held);
             outcome
         }
@@ -166,52 +172,15 @@ fn take_in(alloc: Global, held: &mut HeldPlan, signature: &[u8]) -> PlanOutcome
 }
 
 /// Puts the signed zone in place of the one that was planned, and gives the memory of the plan back. If it is refused, the zones and the
-/// plan are as before.
+/// plan are as before. But a plan of what an update changes of a zone may be given up by `NoMemory` and `Unplanned`, since its version of the zone is
+/// changed in part then. No journal gets anything.
+#[tactic(auto, using(crate::proofs::VersionFacts::of_plan))]
 pub fn finish(alloc: Global, plan: &mut PlanHandle, zones: &mut DatabaseHandle) -> PlanOutcome
     ensures { FinishesHeld plan.old.held zones.old.held result plan.new.held zones.new.held }
 {
     match plan.take(alloc) {
         Some(held) => finish_held(alloc, plan, held, zones),
         None => PlanOutcome::NoPlan,
-    }
-}
-
-/// The same with the plan that was taken out of its handle.
-#[tactic(auto, using(crate::proofs::CallFacts::all_done, crate::proofs::CallFacts::all_refused))]
-fn finish_held(
-    alloc: Global,
-    plan: &mut PlanHandle,
-    held: Box<HeldPlan>,
-    zones: &mut DatabaseHandle,
-) -> PlanOutcome
-    requires { plan.old.held ≡ None }
-    ensures { FinishesHeld (Some held.value) zones.old.held result plan.new.held zones.new.held }
-{
-    match install_held(alloc, &held, zones) {
-        Ok(()) => PlanOutcome::Done,
-        Err(outcome) => {
-            plan.put(held);
-            outcome
-        }
-    }
-}
-
-/// Puts the zone of a plan among those that a handle holds.
-#[tactic(auto, using(crate::proofs::CallFacts::installed))]
-fn install_held(
-    alloc: Global,
-    held: &HeldPlan,
-    zones: &mut DatabaseHandle,
-) -> Result<(), PlanOutcome>
-    ensures { IsInstalled held.now zones.old.held result zones.new.held }
-{
-    match zones.take(alloc) {
-        Some(mut database) => {
-            let done = install(alloc, held, &mut database);
-            zones.put(database);
-            done
-        }
-        None => Err(PlanOutcome::Closed),
     }
 }
 

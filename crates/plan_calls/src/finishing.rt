@@ -60,11 +60,23 @@ pub fn check_serial(held: &HeldPlan, database: &ZoneDatabase) -> Result<(), Plan
 }
 
 /// The serial of a zone: that of the SOA at its origin, 0 without one. Its only error is `Memory`.
-fn zone_serial(zone: &Zone) -> Result<u32, ProtoError>
+pub fn zone_serial(zone: &Zone) -> Result<u32, ProtoError>
     ensures { IfOk result (λ number. number ≡ serial zone.now.inner.records zone.now.origin) }
 {
     let key = RrKey::new(zone.origin.clone()?, RecordType::SOA);
     Ok(serial_under(zone.inner.record_map(), &key))
+}
+
+/// Whether the signatures that were given of a plan are those that it wants. Refused by `Unfinished` and `NoMemory`.
+pub(crate) fn check_signatures(alloc: Global, held: &HeldPlan) -> Result<(), PlanOutcome>
+    ensures faultless { OnOk result (unfinished_fault held.now ≡ None) }
+    ensures refusal { IfErr result (IsUnfinishedBy held.now) }
+{
+    match held.finished(alloc) {
+        Ok(_) => Ok(()),
+        Err(FinishFault::Memory) => Err(PlanOutcome::NoMemory),
+        Err(fault) => Err(PlanOutcome::Unfinished(fault)),
+    }
 }
 
 /// The zone of a plan with its signatures. Refused by `Unfinished` for those that the plan doesn't want, and by `NoMemory`.

@@ -2,11 +2,11 @@
 ghost use Rattle.std.specs.Coded.{coded_option};
 ghost use Rattle.std.specs.Prelude.{◌≡◌, Option};
 ghost use Rattle.call_handles.specs.Holding.{owns_held};
-ghost use Rattle.held_plans.specs.PlanStates.{PlanState};
-ghost use Rattle.held_plans.specs.contracts.held_plan.HeldPlan.{the_row};
+ghost use Rattle.plan_calls.specs.declared.signing_plan.SigningPlan.{SigningPlan as Planned};
+ghost use Rattle.plan_calls.specs.contracts.signing_plan.SigningPlan.{the_row};
 
+use crate::signing_plan::SigningPlan;
 use call_handles::{Handle, NullableBox};
-use held_plans::HeldPlan;
 use std::alloc::Global;
 use std::marker::Model;
 
@@ -15,7 +15,7 @@ use std::marker::Model;
 pub struct PlanHandle {
     ptr: *mut u8,
     alloc: Global,
-    pub ghost held: { Option PlanState } by { coded_option the_row.coded },
+    pub ghost held: { Option Planned } by { coded_option the_row.coded },
 }
 
 impl Model for PlanHandle {
@@ -23,11 +23,11 @@ impl Model for PlanHandle {
 }
 
 impl Handle for PlanHandle {
-    type Content = HeldPlan;
+    type Content = SigningPlan;
 
     ghost held = { λ h. h.held };
 
-    fn from_raw(raw: NullableBox<HeldPlan>) -> PlanHandle
+    fn from_raw(raw: NullableBox<SigningPlan>) -> PlanHandle
         ensures { result.held ≡ raw.content }
     {
         let NullableBox { ptr, alloc } = raw;
@@ -35,11 +35,11 @@ impl Handle for PlanHandle {
         PlanHandle { ptr, alloc }
     }
 
-    fn into_raw(self) -> NullableBox<HeldPlan>
+    fn into_raw(self) -> NullableBox<SigningPlan>
         ensures { result.content ≡ self.held }
     {
         let PlanHandle { ptr, alloc } = self;
-        let ptr = ptr as *mut HeldPlan;
+        let ptr = ptr as *mut SigningPlan;
         NullableBox { ptr, alloc }
     }
 }

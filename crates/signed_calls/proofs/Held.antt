@@ -20,6 +20,8 @@ use Rattle.journal_calls.specs.declared.outcome.JournalOutcome.{JournalOutcome}
 use Rattle.journal_calls.specs.declared.outcome.JournalOutcome.TheVariants.{Usual}
 use Rattle.plan_calls.specs.declared.outcome.PlanOutcome.{PlanOutcome}
 use Rattle.plan_calls.specs.declared.outcome.PlanOutcome.TheVariants.{Unplanned}
+use Rattle.plan_calls.specs.declared.signing_plan.SigningPlan.{SigningPlan}
+use Rattle.plan_calls.specs.SigningPlans.{whole}
 use Rattle.update_denials.specs.declared.preparing.Prepared.{Prepared}
 use Rattle.update_denials.specs.declared.preparing.Signing.{Signing}
 use Rattle.update_signing.specs.declared.answering.SignedReply.{SignedReply}
@@ -31,19 +33,20 @@ use Rattle.signed_updates.specs.Laws.{IsPreparedFor}
 use Rattle.signed_updates.proofs.Permitted.{prepared_are_permitted}
 use Rattle.signed_calls.specs.declared.outcome.PrepareOutcome.{PrepareOutcome}
 use Rattle.signed_calls.specs.declared.outcome.PrepareOutcome.TheVariants.{Update, Plan}
-use Rattle.signed_calls.specs.Laws.{PreparedAreHeld, WaitingGrowJournals}
+use Rattle.signed_calls.specs.Laws.{FinishedGrowJournals, IsPlanOfVersion, IsPlanOfZone, PreparedAreHeld, WaitingGrowJournals}
+use Rattle.signed_calls.specs.Versions.{version_plan}
 use Rattle.signed_calls.specs.Preparing.{EndsAs, GivesSigning, TellsReply, TellsSigned, Told}
 
-module _ (access : UpdateAccess) (origin : Name) (signing : Signing) (m : ClientMessage) (zs : List Zone) (told : Told) (update : Option UpdatedZone) (p : PlanState) (octets : List ℕ) where
+module _ (access : UpdateAccess) (origin : Name) (signing : Signing) (m : ClientMessage) (zs : List Zone) (told : Told) (update : Option UpdatedZone) (p : SigningPlan) (octets : List ℕ) where
   abbrev of_update : Type 0
-  of_update = (q : Prepared) × IsPreparedFor access origin signing m.moment m.octets.now zs q × (p ≡ made_plan origin q.serial q.plan.records q.plan.keys.items)
+  of_update = IsPlanOfZone access origin signing m zs p
 
   -- where a call ends as one about any update nothing is to be signed
   not_alone : (holds : JournalOutcome → Type 0) (o : PrepareOutcome) → EndsAs holds o (Some p) → of_update
   not_alone holds (Update o) (h, none) = absurd cc
   not_alone holds (Plan e) h = absurd h
 
-  given : (q : PlanState) (o : PrepareOutcome) → GivesSigning octets q o told update (Some p) → p ≡ q
+  given : (q : SigningPlan) (o : PrepareOutcome) → GivesSigning octets q o told update (Some p) → p ≡ q
   given q (Update (Usual Done)) (gives, none, is) = cc
   given q (Update (Usual NoRoom)) (long, none, empty) = absurd cc
   given q (Update (Usual NoMemory)) (silent, none, empty) = absurd cc
@@ -54,7 +57,7 @@ module _ (access : UpdateAccess) (origin : Name) (signing : Signing) (m : Client
 
   by_reply : (r : SignedReply) (o : PrepareOutcome) → Begins access origin signing m.moment m.octets.now zs (begun.Signed r) octets → TellsReply origin r octets o told update (Some p) → of_update
   by_reply (reply.Prepared q) o begins tells =
-      (q, prepared_are_permitted access origin signing m.moment m.octets.now zs q octets begins, given (made_plan origin q.serial q.plan.records q.plan.keys.items) o tells)
+      (q, prepared_are_permitted access origin signing m.moment m.octets.now zs q octets begins, given (whole (made_plan origin q.serial q.plan.records q.plan.keys.items)) o tells)
   by_reply (reply.Refused e) o begins tells = not_alone _ o tells
   by_reply (reply.Unsigned e) o begins tells = not_alone _ o tells
   by_reply reply.Unchanged o begins tells = not_alone _ o tells
@@ -64,9 +67,11 @@ module _ (access : UpdateAccess) (origin : Name) (signing : Signing) (m : Client
   by_plan (begun.Signed r) o begins tells = by_reply r o begins tells
 
 pub prepared_are_held : PreparedAreHeld
-prepared_are_held access origin signing m zs outcome told update p (inl (is, silent, none, empty)) = absurd cc
-prepared_are_held access origin signing m zs outcome told update p (inr (x, octets, begins, journaled, tells)) =
-    by_plan access origin signing m zs told update p octets x outcome begins tells
+prepared_are_held access origin signing m zs outcome told update p (inl (v, octets, asked, gives)) =
+    inr (v, octets, asked, given access origin signing m zs told update p octets (version_plan v) outcome gives)
+prepared_are_held access origin signing m zs outcome told update p (inr (inl (is, silent, none, empty))) = absurd cc
+prepared_are_held access origin signing m zs outcome told update p (inr (inr (x, octets, begins, journaled, tells))) =
+    inl (by_plan access origin signing m zs told update p octets x outcome begins tells)
 
 pub waiting_grow_journals : WaitingGrowJournals
 waiting_grow_journals p zs u z a bs journal waits found led last =
@@ -77,3 +82,10 @@ waiting_grow_journals p zs u z a bs journal waits found led last =
     journals_grow z u a bs journal framed (subst (λ (n : Name). IsJournal n a bs journal) (sym its) led) last in
     subst (λ (s : Sets). IsJournal p.origin a (bs ++ s ∷ []) (journal ++ u.frame.items)) sets
     (subst (λ (n : Name). IsJournal n a (bs ++ u.zone.inner.records ∷ []) (journal ++ u.frame.items)) its there)
+
+pub finished_grow_journals : FinishedGrowJournals
+finished_grow_journals v signatures u a bs journal made led last =
+    let its : u.zone.origin ≡ v.origin = ap (λ (y : Zone). y.origin) made.zone.is in
+    let there : IsJournal u.zone.origin a (bs ++ u.zone.inner.records ∷ []) (journal ++ u.frame.items) =
+    journals_grow v.before u a bs journal made.journaled (subst (λ (n : Name). IsJournal n a bs journal) (sym its) led) last in
+    subst (λ (n : Name). IsJournal n a (bs ++ u.zone.inner.records ∷ []) (journal ++ u.frame.items)) its there

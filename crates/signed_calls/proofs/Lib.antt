@@ -1,4 +1,6 @@
 pub mod GivenFacts
 pub mod PrepareFacts
 pub mod SignFacts
+pub mod VersionFacts
+pub mod HeldFacts
 pub mod Held

@@ -22,6 +22,9 @@ use Rattle.journal_calls.specs.Plans.{GivesPlan, TellsPlan}
 use Rattle.plan_calls.specs.declared.outcome.PlanOutcome.{PlanOutcome}
 use Rattle.plan_calls.specs.declared.outcome.PlanOutcome.TheVariants.{Unplanned}
 use Rattle.plan_calls.specs.declared.signing.Signing.{Signing as How}
+use Rattle.plan_calls.specs.declared.signing_plan.PlannedZone.TheVariants.{Version}
+use Rattle.plan_calls.specs.declared.signing_plan.SigningPlan.{SigningPlan}
+use Rattle.plan_calls.specs.SigningPlans.{whole}
 use Rattle.update_denials.specs.declared.preparing.Prepared.{Prepared}
 use Rattle.update_denials.specs.declared.preparing.Signing.{Signing}
 use Rattle.update_signing.specs.declared.answering.SignedReply.{SignedReply}
@@ -30,14 +33,17 @@ use Rattle.zone_update.specs.declared.refusal.Refusal.{Refusal}
 use Rattle.signed_updates.specs.declared.beginning.SignedPlan.{SignedPlan}
 use Rattle.signed_updates.specs.declared.beginning.SignedPlan.TheVariants as begun
 use Rattle.signed_updates.specs.Beginning.{Begins, IfPlanned}
+use Rattle.signed_versions.specs.Asking.{IsAskedFor}
+use Rattle.signed_versions.specs.Versions.{VersionState}
 use Rattle.held_plans.specs.Holding.{made_plan}
 use Rattle.signed_calls.specs.declared.outcome.PrepareOutcome.{PrepareOutcome}
 use Rattle.signed_calls.specs.declared.outcome.PrepareOutcome.TheVariants.{Update, Plan}
 use Rattle.signed_calls.specs.declared.signed_zone.SignedZone.{SignedZone}
 use Rattle.signed_calls.specs.Given.{IsGiven, IsNotGiven}
-use Rattle.signed_calls.specs.Preparing.{ends_by, GivesSigning, IsSilent, PreparesByAccess, PreparesGiven, PreparesHeld, PreparesZones, TellsReply, TellsSigned, Told}
+use Rattle.signed_calls.specs.Versions.{version_plan}
+use Rattle.signed_calls.specs.Preparing.{ends_by, GivesSigning, IsSilent, PreparesByAccess, PreparesGiven, PreparesHeld, PreparesWhole, PreparesZones, TellsReply, TellsSigned, Told}
 
-module _ (told : Told) (update : Option UpdatedZone) (plan : Option PlanState) where
+module _ (told : Told) (update : Option UpdatedZone) (plan : Option SigningPlan) where
   -- ---- what handles hold
 
   module _ (m : ClientMessage) (z : SignedZone) (how : How) (outcome : PrepareOutcome) where
@@ -63,11 +69,23 @@ module _ (told : Told) (update : Option UpdatedZone) (plan : Option PlanState) w
 
   module _ (access : UpdateAccess) (origin : Name) (signing : Signing) (m : ClientMessage) (zs : List Zone) where
     pub was_begun : (outcome : PrepareOutcome) (x : SignedPlan) (octets : List ℕ) → Begins access origin signing m.moment m.octets.now zs x octets → IfPlanned (IsPlanJournaled true zs) x
-        → TellsSigned origin x octets outcome told update plan → PreparesZones access origin signing m zs outcome told update plan
+        → TellsSigned origin x octets outcome told update plan → PreparesWhole access origin signing m zs outcome told update plan
     was_begun outcome x octets begins journaled tells = inr (x, octets, begins, journaled, tells)
 
-    pub unbegun : IsSilent told → update ≡ None → plan ≡ None → PreparesZones access origin signing m zs (Update (Usual NoMemory)) told update plan
+    pub unbegun : IsSilent told → update ≡ None → plan ≡ None → PreparesWhole access origin signing m zs (Update (Usual NoMemory)) told update plan
     unbegun silent none empty = inl (refl, silent, none, empty)
+
+    pub was_asked : (outcome : PrepareOutcome) (v : VersionState) (octets : List ℕ) → IsAskedFor access origin signing.keys.items signing.request m.moment m.octets.now zs v octets
+        → GivesSigning octets (version_plan v) outcome told update plan → PreparesZones access origin signing m zs outcome told update plan
+    was_asked outcome v octets asked gives = inl (v, octets, asked, gives)
+
+    -- asking for a version left the zones as they were
+    pub unasked : (outcome : PrepareOutcome) (now : List Zone) → now ≡ zs → PreparesWhole access origin signing m now outcome told update plan
+        → PreparesZones access origin signing m zs outcome told update plan
+    unasked outcome now same d = inr (subst (λ (x : List Zone). PreparesWhole access origin signing m x outcome told update plan) same d)
+
+    pub unmade : IsSilent told → update ≡ None → plan ≡ None → PreparesZones access origin signing m zs (Update (Usual NoMemory)) told update plan
+    unmade silent none empty = inr (unbegun silent none empty)
 
   -- ---- what is told of it
 
@@ -84,7 +102,7 @@ module _ (told : Told) (update : Option UpdatedZone) (plan : Option PlanState) w
     by_reply r q outcome is tells = subst (λ (y : SignedReply). TellsReply origin y octets outcome told update plan) (sym is) tells
 
     pub prepared_told : (r : SignedReply) (p : Prepared) (outcome : PrepareOutcome) → r ≡ reply.Prepared p
-        → GivesSigning octets (made_plan origin p.serial p.plan.records p.plan.keys.items) outcome told update plan → TellsReply origin r octets outcome told update plan
+        → GivesSigning octets (whole (made_plan origin p.serial p.plan.records p.plan.keys.items)) outcome told update plan → TellsReply origin r octets outcome told update plan
     prepared_told r p outcome is gives = by_reply r (reply.Prepared p) outcome is gives
 
     -- a response alone, where nothing is held
@@ -106,10 +124,14 @@ module _ (told : Told) (update : Option UpdatedZone) (plan : Option PlanState) w
   -- ---- the plan of what is to be signed
 
   module _ (octets : List ℕ) where
-    pub of_made : (p made : PlanState) (outcome : PrepareOutcome) → p ≡ made → GivesSigning octets p outcome told update plan → GivesSigning octets made outcome told update plan
-    of_made p made outcome is gives = subst (λ (q : PlanState). GivesSigning octets q outcome told update plan) is gives
+    pub of_made : (p made : PlanState) (outcome : PrepareOutcome) → p ≡ made → GivesSigning octets (whole p) outcome told update plan → GivesSigning octets (whole made) outcome told update plan
+    of_made p made outcome is gives = subst (λ (q : PlanState). GivesSigning octets (whole q) outcome told update plan) is gives
 
-    pub unwritable : (made : PlanState) (f : PlanFault) → IsUnwritableUnless f (AreSignable made.records) → (f ≡ fault.Memory → ⊥) → IsSilent told → update ≡ None → plan ≡ None
+    pub of_version : (p : PlanState) (v : VersionState) (outcome : PrepareOutcome) → p ≡ (version_plan v).plan → GivesSigning octets (record { plan = p; zone = Version v }) outcome told update plan
+        → GivesSigning octets (version_plan v) outcome told update plan
+    of_version p v outcome is gives = subst (λ (q : PlanState). GivesSigning octets (record { plan = q; zone = Version v }) outcome told update plan) is gives
+
+    pub unwritable : (made : SigningPlan) (f : PlanFault) → IsUnwritableUnless f (AreSignable made.plan.records) → (f ≡ fault.Memory → ⊥) → IsSilent told → update ≡ None → plan ≡ None
         → GivesSigning octets made (Plan (Unplanned f)) told update plan
     unwritable made f (inl memory) other silent none empty = absurd (other memory)
     unwritable made f (inr (is, wrong)) other silent none empty = (is, wrong, silent, none, empty)

@@ -1,11 +1,10 @@
--- What the call does by which the zone of a plan waits to be committed, from what is done in the zones that are held
-use Rattle.std.proofs.Common.{◌≡◌, ◌⊎◌, ◌<◌, true, List, length, inl, inr, refl, sym, ap, subst, Result, Ok, Err}
+-- What the call does by which the whole zone of a plan waits to be committed, from what is done in the zones that are held
+use Rattle.std.proofs.Common.{◌≡◌, ◌⊎◌, ◌∙◌, ◌<◌, true, List, length, inl, inr, refl, sym, ap, subst, Result, Ok, Err}
 use Rattle.std.specs.Prelude.{Option, Some, None}
 use Rattle.std.specs.List.{find}
 use Rattle.zone_planning.specs.declared.fault.PlanFault.TheVariants as fault
-use Rattle.zone_database.specs.declared.database.ZoneDatabase.{ZoneDatabase}
 use Rattle.zone_database.specs.declared.zone.Zone.{Zone}
-use Rattle.zone_database.specs.Databases.{begins_at, zones_in}
+use Rattle.zone_database.specs.Databases.{begins_at}
 use Rattle.held_plans.specs.Holding.{unfinished_fault}
 use Rattle.held_plans.specs.PlanStates.{PlanState}
 use Rattle.held_updates.specs.declared.planned.UpdatedZone.{UpdatedZone}
@@ -13,9 +12,13 @@ use Rattle.held_updates.specs.Journaling.{IsJournaled}
 use Rattle.journal_calls.specs.Plans.{Room}
 use Rattle.plan_calls.specs.declared.outcome.PlanOutcome.{PlanOutcome}
 use Rattle.plan_calls.specs.declared.outcome.PlanOutcome.TheVariants as outcome
+use Rattle.plan_calls.specs.declared.signing_plan.PlannedZone.{PlannedZone}
+use Rattle.plan_calls.specs.declared.signing_plan.PlannedZone.TheVariants as zone
+use Rattle.plan_calls.specs.declared.signing_plan.SigningPlan.{SigningPlan}
+use Rattle.plan_calls.specs.SigningPlans.{whole}
 use Rattle.plan_calls.specs.Finishing.{finished_zone, IsChanged, IsUnfinished, IsUnfinishedBy, StillStands}
 use Rattle.plan_calls.proofs.Steps.{changed, unfinished}
-use Rattle.signed_calls.specs.Signing.{HoldsWaiting, IsSilent, IsUnheld, SignsHeld, SignsIn, SignsZones, Waits}
+use Rattle.signed_calls.specs.Signing.{HoldsWaiting, IsSilent, IsUnheld, SignsIn, SignsWhole, Waits}
 
 module _ (p : PlanState) (zs : List Zone) (r : Room) (update : Option UpdatedZone) where
   -- ---- a plan that isn't finished
@@ -74,26 +77,30 @@ module _ (p : PlanState) (zs : List Zone) (r : Room) (update : Option UpdatedZon
       by (Err outcome.ZoneChanged) h = absurd h
       by (Err (outcome.Unfinished f)) h = absurd h
 
--- ---- what handles hold
+-- ---- what is left of the plan
 
-pub by_zones : (p : PlanState) (zones : Option ZoneDatabase) (c : ZoneDatabase) (done : Result (Unit {0}) PlanOutcome) (r : Room) (update : Option UpdatedZone) → zones ≡ Some c
-    → SignsIn p (zones_in c) done r update → SignsZones p zones done r update
-by_zones p zones c done r update is d = subst (λ (x : Option ZoneDatabase). SignsZones p x done r update) (sym is) d
+abbrev both : PlanState → PlannedZone → SigningPlan
+both p z = record { plan = p; zone = z }
 
-pub closed : (p : PlanState) (zones : Option ZoneDatabase) (r : Room) (update : Option UpdatedZone) → zones ≡ None → IsSilent r → update ≡ None → SignsZones p zones (Err outcome.Closed) r update
-closed p zones r update none silent empty =
-    subst (λ (x : Option ZoneDatabase). SignsZones p x (Err outcome.Closed) r update) (sym none) (refl, silent, empty)
+whole_is : (p q : PlanState) (z : PlannedZone) → q ≡ p → z ≡ zone.Whole → both q z ≡ whole p
+whole_is p q z its is = subst (λ (x : PlanState). both x z ≡ whole p) (sym its) (ap (both p) is)
 
-module _ (p : PlanState) (zones : Option ZoneDatabase) (r : Room) (update : Option UpdatedZone) (plan : Option PlanState) where
-  pub all_done : SignsZones p zones (Ok tt) r update → plan ≡ None → SignsHeld (Some p) zones outcome.Done r update plan
+module _ (p : PlanState) (zs : List Zone) (r : Room) (update : Option UpdatedZone) (plan : Option SigningPlan) where
+  pub all_done : SignsIn p zs (Ok tt) r update → plan ≡ None → SignsWhole p zs outcome.Done r update plan
   all_done d none = inl (refl, d, none)
 
-  pub all_refused : (o : PlanOutcome) → SignsZones p zones (Err o) r update → plan ≡ Some p → SignsHeld (Some p) zones o r update plan
-  all_refused o d kept = inr (d, kept)
+  pub all_refused : (s : SigningPlan) (o : PlanOutcome) → SignsIn p zs (Err o) r update → s.plan ≡ p → s.zone ≡ zone.Whole → plan ≡ Some s → SignsWhole p zs o r update plan
+  all_refused s o d its is kept = inr (d, kept ∙ ap Some same)
+    where
+      same : s ≡ whole p
+      same = whole_is p s.plan s.zone its is
 
-  pub of_plan : (held : Option PlanState) (o : PlanOutcome) → held ≡ Some p → SignsHeld (Some p) zones o r update plan → SignsHeld held zones o r update plan
-  of_plan held o is d = subst (λ (h : Option PlanState). SignsHeld h zones o r update plan) (sym is) d
+-- ---- a plan that is read where it lies
 
-pub no_plan : (held : Option PlanState) (zones : Option ZoneDatabase) (r : Room) (update : Option UpdatedZone) (plan : Option PlanState) → held ≡ None → r.after ≡ r.before → plan ≡ None
-    → SignsHeld held zones outcome.NoPlan r update plan
-no_plan held zones r update plan none same empty = subst (λ (h : Option PlanState). SignsHeld h zones outcome.NoPlan r update plan) (sym none) (refl, same, empty)
+pub done_at : (p q : PlanState) (zs : List Zone) (r : Room) (update : Option UpdatedZone) (plan : Option SigningPlan) → SignsIn q zs (Ok tt) r update → q ≡ p → plan ≡ None
+    → SignsWhole p zs outcome.Done r update plan
+done_at p q zs r update plan d is none = subst (λ (x : PlanState). SignsWhole x zs outcome.Done r update plan) is (all_done q zs r update plan d none)
+
+pub whole_at : (p q : PlanState) (zs : List Zone) (o : PlanOutcome) (r : Room) (update : Option UpdatedZone) (plan : Option SigningPlan) → SignsWhole q zs o r update plan → q ≡ p
+    → SignsWhole p zs o r update plan
+whole_at p q zs o r update plan d is = subst (λ (x : PlanState). SignsWhole x zs o r update plan) is d

@@ -1,5 +1,7 @@
 pub mod Outcomes
 pub mod Given
-pub mod Preparing
 pub mod Signing
+pub mod Versions
+pub mod Held
+pub mod Preparing
 pub mod Laws

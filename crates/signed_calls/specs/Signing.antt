@@ -1,19 +1,20 @@
--- What the call does by which the zone of a plan, with its signatures, waits to be committed
+-- What the call does by which the whole zone of a plan, with its signatures, waits to be committed
 use Rattle.std.specs.Prelude.{◌≡◌, ◌⊎◌, ◌<◌, true, List, length, Option, Some, None, Result, Ok, Err}
 use Rattle.std.specs.List.{find}
 use Rattle.call_handles.specs.Rooms.{IsUntouched}
 use Rattle.zone_planning.specs.declared.fault.PlanFault.TheVariants.{Unwritable}
-use Rattle.zone_database.specs.declared.database.ZoneDatabase.{ZoneDatabase}
 use Rattle.zone_database.specs.declared.zone.Zone.{Zone}
-use Rattle.zone_database.specs.Databases.{begins_at, zones_in}
+use Rattle.zone_database.specs.Databases.{begins_at}
 use Rattle.held_plans.specs.Holding.{unfinished_fault}
 use Rattle.held_plans.specs.PlanStates.{PlanState}
 use Rattle.held_updates.specs.declared.planned.UpdatedZone.{UpdatedZone}
 use Rattle.held_updates.specs.Journaling.{IsJournaled}
 use Rattle.journal_calls.specs.Plans.{IsIn, IsOutside, Room}
 use Rattle.plan_calls.specs.declared.outcome.PlanOutcome.{PlanOutcome}
-use Rattle.plan_calls.specs.declared.outcome.PlanOutcome.TheVariants.{Done, Closed, NoMemory, NoRoom, NoPlan, Unplanned}
+use Rattle.plan_calls.specs.declared.outcome.PlanOutcome.TheVariants.{Done, NoMemory, NoRoom, Unplanned}
+use Rattle.plan_calls.specs.declared.signing_plan.SigningPlan.{SigningPlan}
 use Rattle.plan_calls.specs.Finishing.{finished_zone, IsUnfinished, StillStands}
+use Rattle.plan_calls.specs.SigningPlans.{whole}
 
 -- the call wrote nothing
 abbrev pub IsSilent : Room → Type 0
@@ -44,13 +45,7 @@ abbrev pub SignsIn : PlanState → List Zone → Result (Unit {0}) PlanOutcome �
 SignsIn p zs (Ok x) r update = (u : UpdatedZone) × Waits p zs u × HoldsWaiting u (Ok x) r update
 SignsIn p zs (Err outcome) r update = IsUnheld p zs outcome r update
 
--- the same of a handle that may hold no zones
-abbrev pub SignsZones : PlanState → Option ZoneDatabase → Result (Unit {0}) PlanOutcome → Room → Option UpdatedZone → Type 0
-SignsZones p None done r update = (done ≡ Err Closed) × IsSilent r × (update ≡ None)
-SignsZones p (Some c) done r update = SignsIn p (zones_in c) done r update
-
--- the same of one that may hold no plan: a plan whose zone is held is done with, and another stays
-abbrev pub SignsHeld : Option PlanState → Option ZoneDatabase → PlanOutcome → Room → Option UpdatedZone → Option PlanState → Type 0
-SignsHeld None zones outcome r update plan = (outcome ≡ NoPlan) × (r.after ≡ r.before) × (plan ≡ None)
-SignsHeld (Some p) zones outcome r update plan =
-    ((outcome ≡ Done) × SignsZones p zones (Ok tt) r update × (plan ≡ None)) ⊎ (SignsZones p zones (Err outcome) r update × (plan ≡ Some p))
+-- the same with what is left of the plan: it is done with where its zone is held, and else it stays
+abbrev pub SignsWhole : PlanState → List Zone → PlanOutcome → Room → Option UpdatedZone → Option SigningPlan → Type 0
+SignsWhole p zs outcome r update plan =
+    ((outcome ≡ Done) × SignsIn p zs (Ok tt) r update × (plan ≡ None)) ⊎ (SignsIn p zs (Err outcome) r update × (plan ≡ Some (whole p)))

@@ -5,7 +5,7 @@ use Rattle.call_handles.proofs.NullableBoxes.{open_pair, close_pair, pair_fits, 
 use denote.Struct.Owning.{shape}
 use Rattle.call_handles.specs.Holding.{owns_held}
 use Rattle.call_handles.specs.contracts.nullable_box.NullableBox as nullable
-use Rattle.held_plans.specs.contracts.held_plan.HeldPlan as held_plan
+use Rattle.plan_calls.specs.contracts.signing_plan.SigningPlan as signing_plan
 use Rattle.plan_calls.specs.contracts.handle.PlanHandle as handle
 use Rattle.plan_calls.specs.contracts.handle.PlanHandleHandle.from_raw.{ended, clauses}
 use Rattle.plan_calls.specs.contracts.handle.PlanHandleHandle.from_raw.Key.{name as #self}
@@ -14,7 +14,7 @@ use Rattle.plan_calls.proofs.handle.PlanHandleHandle.from_raw.Code as code
 
 pub from_raw_spec : {M : Type 1} → statement M
 from_raw_spec 𝓤 𝓛 𝓜 𝓡 wired =
-    let R : RattleType = held_plan.the_row in
+    let R : RattleType = signing_plan.the_row in
     let From : RattleType = nullable.the_row R in
     let c = clauses 𝓛 𝓜.mem 𝓡.returns in
     let fn = code.function in
