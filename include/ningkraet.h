@@ -551,9 +551,9 @@ void nk_plan_free(nk_plan *plan);
  *
  * With NSEC this call and nk_update_sign take time by what the update changes, whatever else the zone has. But the first one copies the zone, as does
  * one after an update that was prepared and given up, or while a copy (nk_zones_copy) has the version before. The plan has what changes alone, and
- * signatures of other sets stay, whenever they end: nk_plan_begin signs the zone anew. Both take time by the size of the zone with NSEC3; where the
- * zone isn't signed so yet, by these keys and with NSEC; where the keys at its origin change, or the TTL of denials; and for a new DNAME, or what is
- * below one.
+ * signatures of other sets stay, whenever they end and whichever key made them: nk_plan_begin signs the zone anew. Both take time by the size of the
+ * zone with NSEC3; where the zone isn't signed so yet, by these keys and with NSEC; where the keys at its origin change, or the TTL of denials; and
+ * for a new DNAME, or what is below one. The update after such a one copies the zone.
  *
  * What was begun before in this nk_update and this nk_plan is freed first. After NK_DONE `frame_written` is 0 where there is something to sign.
  * The codes are those of nk_update_begin, and NK_BAD_NAME, NK_BAD_KEYS, NK_BAD_DENIAL for what `zone` or `how` has, NK_BAD_ZONE for records that can't
